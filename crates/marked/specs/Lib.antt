@@ -1,0 +1,9 @@
+pub mod Sums
+pub mod Lists
+pub mod Net
+pub mod Circuits
+pub mod Order
+pub mod Firing
+pub mod Distance
+pub mod Wait
+pub mod Bounds

@@ -1,0 +1,11 @@
+pub mod Plan
+pub mod Ends
+pub mod Graph
+pub mod Valid
+pub mod Work
+pub mod Distance
+pub mod Relax
+pub mod Start
+pub mod Dead
+pub mod Climb
+pub mod Closing

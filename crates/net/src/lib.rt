@@ -1,0 +1,20 @@
+// The computational graph of document 01, over the operation count and the rows of the edges: no place table is ever built.
+pub mod dead;
+pub mod distances;
+pub mod ends;
+pub mod start;
+
+// Room for every operation, edge, transition and place that the limits allow.
+pub const OPERATIONS: usize = 40;
+
+pub const EDGES: usize = 128;
+
+pub const TRANSITIONS: usize = 3 * OPERATIONS + 2;
+
+pub const PLACES: usize = 3 * OPERATIONS + 2 * EDGES;
+
+// What a search found: the lowest such number, or none.
+pub enum Found {
+    At(usize),
+    Nothing,
+}
