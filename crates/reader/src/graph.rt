@@ -1,0 +1,66 @@
+// A graph as the reader hands it out, its limits, and how it is made from the bytes of a file.
+use crate::frame::framed;
+use crate::frame::numbers;
+use crate::judge::judge;
+use crate::read::blank;
+use crate::read::read;
+ghost use Rattle.reader.specs.Reply.{LookReply};
+
+// A graph as its file has it; unused entries are 0.
+pub struct Graph {
+    pub operations: usize,
+    pub edges: usize,
+    pub times: [u32; Graph::OPERATIONS],
+    pub from: [u8; Graph::EDGES],
+    pub to: [u8; Graph::EDGES],
+    pub mark: [u8; Graph::EDGES],
+}
+
+pub enum Verdict {
+    Accepted,
+    Refused { number: u8, place: u16 },
+}
+
+// The graph is all zero where the file is refused.
+pub struct Look {
+    pub verdict: Verdict,
+    pub graph: Graph,
+}
+
+impl Graph {
+    pub const OPERATIONS: usize = net::OPERATIONS;
+
+    pub const EDGES: usize = net::EDGES;
+
+    // The source, the operations and the sink.
+    pub const NODES: usize = Graph::OPERATIONS + 2;
+
+    pub const TIME: u32 = 1_000_000;
+
+    // The shortest file is a trailer alone, and too short for a table.
+    pub const SHORTEST: usize = 16;
+
+    pub const LENGTH: usize = 2048;
+
+    // The last bytes of a file.
+    pub const MAGIC: [u8; 4] = *b"AMG1";
+
+    pub fn from_file(file: &[u8]) -> Look
+        ensures { λ r. ⌜ LookReply (now (file .entry)) r ⌝ }
+    {
+        let number = framed(file);
+        if number != 0 {
+            let verdict = Verdict::Refused { number, place: 0 };
+            let graph = blank();
+            return Look { verdict, graph };
+        }
+        let t = numbers(file);
+        let graph = read(file, t);
+        let verdict = judge(file, t, graph);
+        if let Verdict::Accepted = verdict {
+            return Look { verdict, graph };
+        }
+        let graph = blank();
+        Look { verdict, graph }
+    }
+}
