@@ -1,0 +1,5 @@
+pub mod Inputs
+pub mod Searches
+pub mod Tokens
+pub mod Fews
+pub mod Steps

@@ -1,0 +1,69 @@
+// The three calls for a graph that look has accepted, over its rows: 10 and 11 first, then the work.
+use crate::repeat::run_rows;
+use crate::reply::Ran;
+use crate::reply::Start;
+use firing::step::Answer;
+use firing::step::step_rows;
+use marking::accepts::accepts;
+use net::EDGES;
+use net::start::start_marking;
+ghost use Rattle.net.specs.Valid.{Single, Valid};
+ghost use Rattle.stepping.specs.Work.{GraphRun, GraphStarted, GraphStepped};
+
+// What stood in the buffer is no fault: only its length is tested.
+pub fn start_graph(n: usize, e: usize, mark: &[u8; EDGES], marking: &mut [u8]) -> Start
+    requires { ⌜ Single n e (now mark) ⌝ }
+    ensures { λ r. ⌜ GraphStarted n e (now (mark .entry)) (now (marking .entry)) r (now (marking .exit)) ⌝ }
+{
+    if marking.len() != 3 * n + 2 * e {
+        return Start::Refused {
+            number: 10,
+            place: 0,
+        };
+    }
+    start_marking(n, e, mark, marking);
+    Start::Started
+}
+
+pub fn step_graph<'a>(
+    n: usize,
+    e: usize,
+    from: &'a [u8; EDGES],
+    to: &'a [u8; EDGES],
+    mark: &'a [u8; EDGES],
+    marking: &mut [u8],
+    transition: u16,
+) -> Answer
+    requires { ⌜ Valid n e (now from) (now to) ⌝ }
+    requires { ⌜ Single n e (now mark) ⌝ }
+    ensures { λ r. ⌜ GraphStepped n e (now (from .entry)) (now (to .entry)) (now (mark .entry)) (now (marking .entry)) transition r (now (marking .exit)) ⌝ }
+{
+    let number = accepts(n, e, from, to, mark, marking);
+    if number != 0 {
+        return Answer::Refused { number, place: 0 };
+    }
+    step_rows(n, e, from, to, marking, transition)
+}
+
+pub fn run_graph<'a>(
+    n: usize,
+    e: usize,
+    from: &'a [u8; EDGES],
+    to: &'a [u8; EDGES],
+    mark: &'a [u8; EDGES],
+    marking: &mut [u8],
+    list: &'a [u16],
+) -> Ran
+    requires { ⌜ Valid n e (now from) (now to) ⌝ }
+    requires { ⌜ Single n e (now mark) ⌝ }
+    ensures { λ r. ⌜ GraphRun n e (now (from .entry)) (now (to .entry)) (now (mark .entry)) (now (marking .entry)) (now (list .entry)) r (now (marking .exit)) ⌝ }
+{
+    let number = accepts(n, e, from, to, mark, marking);
+    if number != 0 {
+        return Ran {
+            fired: 0,
+            answer: Answer::Refused { number, place: 0 },
+        };
+    }
+    run_rows(n, e, from, to, marking, list)
+}

@@ -1,0 +1,5 @@
+// What `wait` replies.
+pub enum Wait {
+    Waits(u32),
+    Refused { number: u8, place: u16 },
+}
