@@ -1,0 +1,10 @@
+pub mod Trails
+pub mod Moves
+pub mod Turning
+pub mod Climbs
+pub mod Listings
+pub mod ListRows
+pub mod Agree
+pub mod Choice
+pub mod Unique
+pub mod Handing

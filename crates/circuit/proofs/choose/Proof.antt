@@ -1,0 +1,57 @@
+-- The lists, the search and the writing, one after the other: `handed`.
+use mathlib.Core.Path.{refl}
+use denote.Ref.{now}
+use Rattle.circuit.proofs.Handing.{fits, found, handed, noted, sized-headed, sized-linked}
+use Rattle.circuit.proofs.ListRows.{listing-start}
+use borrow.Author.Needs.{needs}
+use Rattle.circuit.proofs.choose.Statement.{statement}
+use Rattle.circuit.proofs.choose.Tie as tie
+
+mul-nt : tie.Need-mul-nt
+mul-nt c = search needs
+
+add-nt : tie.Need-add-nt
+add-nt c = search needs
+
+mul-np : tie.Need-mul-np
+mul-np c = search needs
+
+mul-np-2 : tie.Need-mul-np-2
+mul-np-2 c = search needs
+
+add-np : tie.Need-add-np
+add-np c = search needs
+
+cast-head : tie.Need-cast-head
+cast-head c = search needs
+
+list-tight-requires : tie.Need-list-tight-requires
+list-tight-requires c κs = (c .before .before .before .before .before .pre .0, ((c .before .before .before .before .before .pre .1 .0 .small, c .before .before .before .before .before .pre .1 .0 .low), record { heads = refl; nexts = refl; sources = refl; targets = refl }))
+
+first-requires : tie.Need-first-requires
+first-requires c κs = let start = c .before .before .before .before .before .before .before .before .before .before .before in let l = c .before .before .before .before .before .list-tight .ensures .more (listing-start (now (start .args .times)) (now (start .args .mark)) (start .args .a) (start .args .b) (now (start .args .d)) _ _ (start .pre .0 .valid)) in (sized-linked (start .pre .0) l, (sized-headed (start .pre .0) l (c .before .before .before .before .before .list-tight .ensures .whole), refl))
+
+hand-out-requires : tie.Need-hand-out-requires
+hand-out-requires c κs = let start = c .before .before .before .before .before .before .before .before .before .before .before .before .before .before .before .before .before in let l = c .before .before .before .before .before .before .before .before .before .before .before .list-tight .ensures .more (listing-start (now (start .args .times)) (now (start .args .mark)) (start .args .a) (start .args .b) (now (start .args .d)) _ _ (start .pre .0 .valid)) in (sized-linked (start .pre .0) l, ((found l (start .pre .1 .0) (c .before .before .before .before .before .first .ensures), fits l (start .pre .1 .0) (c .before .before .before .before .before .first .ensures), start .pre .1 .1), noted l (start .pre .1 .0) (c .before .before .before .before .before .first .ensures)))
+
+same-length : tie.Need-same-length
+same-length c = search needs
+
+returns : tie.Need-returns
+returns c = let start = c .before .before .before .before .before .before .before .before .before .before .before .before .before .before .before .before .before .before .before .before in let l = c .before .before .before .before .before .before .before .before .before .before .before .before .before .before .list-tight .ensures .more (listing-start (now (start .args .times)) (now (start .args .mark)) (start .args .a) (start .args .b) (now (start .args .d)) _ _ (start .pre .0 .valid)) in handed l (start .pre .1 .0) (c .before .before .before .before .before .before .before .before .first .ensures) (c .before .before .hand-out .ensures)
+
+pub choose-spec : {M : Type 1} → statement M
+choose-spec =
+    tie.close
+    (tie.spec
+    mul-nt
+    add-nt
+    mul-np
+    mul-np-2
+    add-np
+    cast-head
+    list-tight-requires
+    first-requires
+    hand-out-requires
+    same-length
+    returns)

@@ -1,0 +1,66 @@
+-- The invariant: k places less one lead from x to goal.
+use lib.ListN.{length}
+use Prim.Native.Nat.{_+_, _-_}
+use mathlib.Core.Path.{_≡_, ap}
+use denote.Ref.{now}
+use native.Mathlib.Omega.{arith}
+use Rattle.circuit.proofs.Climbs.{Climb, climb-end, climb-in, climb-more, climb-on, climb-place, climb-start}
+use Rattle.circuit.proofs.write.count_back.Statement.{statement}
+use Rattle.circuit.proofs.write.count_back.Tie as tie
+
+abbrev Inv-loop : tie.InvT-loop
+Inv-loop nt np next src dst via root goal x₀ k₀ x k = (o : Climb nt np src dst root goal via x) × (k ≡ 1 + length (o .done))
+
+abbrev μ-loop : tie.MeasureT-loop
+μ-loop nt np next src dst via root goal x₀ k₀ x k = nt - k
+
+loop-holds : tie.Need-loop-holds Inv-loop μ-loop
+loop-holds c = (climb-start (now (c .args .via)) (c .pre .1 .1), omega arith)
+
+mul-index : tie.Need-mul-index Inv-loop μ-loop
+mul-index c = omega (arith, climb-in (c .before .before .pre .0) (c .before .before .pre .1 .0 .0) (c .before .loop .inv .0), c .before .before .pre .0 .few)
+
+element-copy-out-index : tie.Need-element-copy-out-index Inv-loop μ-loop
+element-copy-out-index c = omega (arith, climb-in (c .before .before .pre .0) (c .before .before .pre .1 .0 .0) (c .before .loop .inv .0), c .before .before .pre .0 .few)
+
+index-requires : tie.Need-index-requires Inv-loop μ-loop
+index-requires c κs = tt
+
+sub-q : tie.Need-sub-q Inv-loop μ-loop
+sub-q c = climb-place (c .before .before .before .before .pre .0) (c .before .before .before .before .pre .1 .0 .0) (c .before .before .before .loop .inv .0) (c .before .before .loop-test .taken) (c .index .ensures .0) .0
+
+element-copy-out-number : tie.Need-element-copy-out-number Inv-loop μ-loop
+element-copy-out-number c = let start = c .before .before .before .before in omega (arith, climb-place (start .pre .0) (start .pre .1 .0 .0) (c .before .before .before .loop .inv .0) (c .before .before .loop-test .taken) (c .index .ensures .0) .1, start .pre .0 .many)
+
+number-requires : tie.Need-number-requires Inv-loop μ-loop
+number-requires c κs = tt
+
+add-k : tie.Need-add-k Inv-loop μ-loop
+add-k c = let start = c .before .before .before .before .before .before in let turn = c .before .before .before .before .before in omega (arith, climb-more (start .pre .0) (start .pre .1 .0 .0) (turn .loop .inv .0) (c .before .before .before .before .loop-test .taken), turn .loop .inv .1, start .pre .0 .few)
+
+loop-less : tie.Need-loop-less Inv-loop μ-loop
+loop-less c = let start = c .before .before .before .before .before .before in let turn = c .before .before .before .before .before in omega (arith, climb-more (start .pre .0) (start .pre .1 .0 .0) (turn .loop .inv .0) (c .before .before .before .before .loop-test .taken), turn .loop .inv .1)
+
+loop-again : tie.Need-loop-again Inv-loop μ-loop
+loop-again c = (climb-on (c .before .before .before .before .before .loop .inv .0) (c .before .before .before .before .loop-test .taken) (c .before .before .index .ensures .0) (c .number .ensures .0), omega (arith, c .before .before .before .before .before .loop .inv .1))
+
+returns : tie.Need-returns Inv-loop μ-loop
+returns c = record { noted = c .before .loop .inv .0 .noted; count = omega (arith, c .before .loop .inv .1, ap length (climb-end (c .before .before .pre .0) (c .before .before .pre .1 .0 .0) (c .before .loop .inv .0) (c .before .before .pre .1 .0 .1) (c .loop-test .left))) }
+
+pub count-back-spec : {M : Type 1} → statement M
+count-back-spec =
+    tie.close
+    (tie.spec
+    Inv-loop
+    μ-loop
+    loop-holds
+    mul-index
+    element-copy-out-index
+    index-requires
+    sub-q
+    element-copy-out-number
+    number-requires
+    add-k
+    loop-less
+    loop-again
+    returns)

@@ -1,0 +1,4 @@
+pub mod Chosen
+pub mod Search
+pub mod Lists
+pub mod Turns

@@ -1,0 +1,61 @@
+// The circuit that attains TBO: of those that do, written lowest place first, the first in dictionary order.
+mod list;
+mod search;
+mod write;
+
+use net::EDGES;
+use net::OPERATIONS;
+use net::PLACES;
+use net::TRANSITIONS;
+ghost use Prim.Native.Nat.{_+_, _*_, _≤_};
+ghost use lib.ListN.{length};
+ghost use Rattle.net.specs.Plan.{rows};
+ghost use Rattle.net.specs.Graph.{netOf, startOf};
+ghost use Rattle.tbo.specs.Rows.{Sized};
+ghost use Rattle.tbo.specs.Bounded.{Bounded};
+ghost use Rattle.circuit.specs.Chosen.{Handed};
+
+// Writes the chosen circuit into ring, in travel order. The answer is how many places it has.
+// It goes along the places that are tight in the certificate d, for these are the places of the circuits that attain a / b.
+pub fn choose(
+    n: usize,
+    e: usize,
+    times: &[u32; OPERATIONS],
+    from: &[u8; EDGES],
+    to: &[u8; EDGES],
+    mark: &[u8; EDGES],
+    a: u64,
+    b: u64,
+    d: &[u64; TRANSITIONS],
+    ring: &mut [u16],
+) -> usize
+    requires { ⌜ Sized n e (now times) (now from) (now to) (now mark) ⌝ }
+    requires { ⌜ Bounded (rows n e (now times) (now from) (now to) (now mark)) a b (now d) ⌝ }
+    requires { ⌜ 3 * n + 2 ≤ length (now ring) ⌝ }
+    ensures { λ k. ⌜ Handed (netOf (rows n e (now (times .entry)) (now (from .entry)) (now (to .entry)) (now (mark .entry)))) (startOf (rows n e (now (times .entry)) (now (from .entry)) (now (to .entry)) (now (mark .entry)))) a b (now (ring .entry)) k (now (ring .exit)) ⌝ }
+{
+    let nt = 3 * n + 2;
+    let np = 3 * n + 2 * e;
+    let mut head = [np as u16; TRANSITIONS];
+    let mut next = [0u16; PLACES];
+    let mut src = [0u8; PLACES];
+    let mut dst = [122u8; PLACES];
+    list::list_tight(
+        n,
+        e,
+        times,
+        from,
+        to,
+        mark,
+        a,
+        b,
+        d,
+        &mut head,
+        &mut next,
+        &mut src,
+        &mut dst,
+    );
+    let mut via = [0u16; TRANSITIONS];
+    let p = search::first(nt, np, &head, &next, &src, &dst, &mut via);
+    write::hand_out(nt, np, &next, &src, &dst, &via, p, ring)
+}

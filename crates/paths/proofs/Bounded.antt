@@ -1,0 +1,43 @@
+-- How large an entry can get: no more than all operations take together, so at most 40 times 1,000,000.
+use mathlib.Core.Path.{_≡_, ap, refl}
+use mathlib.Core.List.{List, [], _∷_}
+use Prim.Native.Nat.{_*_, _+_, _-_, _≤_, suc, zero, ℕ}
+use native.Mathlib.Numerals.{add-one}
+use native.Mathlib.Omega.{arith}
+use lib.ListN.{length}
+use Rattle.marked.specs.Sums.{sum, upto}
+use Rattle.marked.specs.Net.{at}
+use Rattle.net.specs.Plan.{Plan, rows, timeIn}
+use Rattle.paths.specs.Longest.{effort}
+use Rattle.paths.specs.Passable.{Passable}
+use Rattle.paths.specs.Work.{Chain, Backed, total}
+use Rattle.paths.proofs.Distinct.{path-effort}
+
+-- The times of the operations, one by one as they are added up.
+pub times-none : (f : ℕ → ℕ) → upto f 0 ≡ 0
+unfolding upto
+times-none f = refl
+
+pub times-more : (times : List ℕ) (i : ℕ) → upto (λ (j : ℕ). timeIn times (j + 1)) (i + 1) ≡ upto (λ (j : ℕ). timeIn times (j + 1)) i + at times i
+unfolding upto
+times-more times i = let same : i + 1 - 1 ≡ i = omega arith in rw add-one (omega (arith, ap (at times) same))
+
+pub times-most : (f : ℕ → ℕ) (m n : ℕ) → ((i : ℕ) → 1 ≤ i → i ≤ n → f i ≤ m) → upto (λ (i : ℕ). f (i + 1)) n ≤ n * m
+unfolding upto
+times-most f m zero h = omega arith
+times-most f m (suc n) h = omega (arith, times-most f m n (λ i k l. h i k (omega arith)), h (n + 1) (omega arith) (omega arith))
+
+total-most : (m : ℕ) (d : List ℕ) → ((v : ℕ) → at d v ≤ m) → total d ≤ length d * m
+unfolding sum
+total-most m [] h = omega arith
+total-most m (x ∷ d) h = omega (arith, total-most m d (λ v. h (suc v)), h zero)
+
+pub effort-most : {g : Plan} → Passable g → effort g ≤ 40000000
+effort-most {g} ok = omega (arith, times-most (g .time) 1000000 (g .operations) (ok .timely), ok .limited .operations)
+
+pub chain-most : {g : Plan} {v x : ℕ} → Passable g → Chain g v x → x ≤ effort g
+chain-most ok c = omega (arith, path-effort (ok .limited) (ok .live) (c .path), c .has)
+
+pub entries-most : {n e : ℕ} {times from to mark d : List ℕ} → Backed n e times from to mark d → total d ≤ 42 * effort (rows n e times from to mark)
+entries-most {n} {e} {times} {from} {to} {mark} {d} l =
+    omega (arith, total-most _ d (λ v. chain-most (l .passable) (l .chains v)), ap (λ (k : ℕ). k * effort (rows n e times from to mark)) (l .long))

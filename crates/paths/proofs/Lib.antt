@@ -1,0 +1,9 @@
+pub mod Links
+pub mod Distinct
+pub mod Reached
+pub mod Bounded
+pub mod Offers
+pub mod Sweeps
+pub mod Settling
+pub mod Sinks
+pub mod Order

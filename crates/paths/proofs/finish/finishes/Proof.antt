@@ -1,0 +1,14 @@
+-- `finishes` begins at 0 and settles.
+use Rattle.paths.proofs.Offers.{begun}
+use Rattle.paths.proofs.Settling.{settled-finished}
+use Rattle.paths.proofs.finish.finishes.Statement.{statement}
+use Rattle.paths.proofs.finish.finishes.Tie as tie
+
+settle-requires : tie.Need-settle-requires
+settle-requires c κs = begun (c .before .pre)
+
+returns : tie.Need-returns
+returns c = settled-finished (c .settle .ensures)
+
+pub finishes-spec : {M : Type 1} → statement M
+finishes-spec = tie.close (tie.spec settle-requires returns)

@@ -1,0 +1,40 @@
+-- `path_sums` reads TBIO at the data sink, TT at the last sink, and TCE off the times.
+use Prim.Native.Nat.{_+_}
+use native.Mathlib.Omega.{arith}
+use Rattle.paths.proofs.Sinks.{latest-tt}
+use borrow.Author.Needs.{needs}
+use Rattle.paths.proofs.path_sums.Statement.{statement}
+use Rattle.paths.proofs.path_sums.Tie as tie
+
+finishes-requires : tie.Need-finishes-requires
+finishes-requires c κs = search needs
+
+add-tbio : tie.Need-add-tbio
+add-tbio c = search needs
+
+mul-tbio : tie.Need-mul-tbio
+mul-tbio c = search needs
+
+array-read-tbio : tie.Need-array-read-tbio
+array-read-tbio c = search needs
+
+latest-requires : tie.Need-latest-requires
+latest-requires c κs = search needs
+
+all-times-requires : tie.Need-all-times-requires
+all-times-requires c κs = search needs
+
+returns : tie.Need-returns
+returns c = record { tbio = c .before .before .before .finishes .ensures .each (c .before .before .before .before .args .n + 1) (omega arith); tt = latest-tt (c .before .before .before .before .pre .limited) (c .before .before .before .finishes .ensures) (c .before .latest .ensures); tce = c .all-times .ensures }
+
+pub path-sums-spec : {M : Type 1} → statement M
+path-sums-spec =
+    tie.close
+    (tie.spec
+    finishes-requires
+    add-tbio
+    mul-tbio
+    array-read-tbio
+    latest-requires
+    all-times-requires
+    returns)

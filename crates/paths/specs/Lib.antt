@@ -1,0 +1,5 @@
+pub mod Modified
+pub mod Longest
+pub mod Passable
+pub mod Answers
+pub mod Work

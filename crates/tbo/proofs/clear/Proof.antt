@@ -1,0 +1,12 @@
+-- All entries are 0.
+use native.Mathlib.Omega.{arith}
+use mathlib.Core.Path.{refl}
+use Rattle.tbo.proofs.Sweeping.{zeros}
+use Rattle.tbo.proofs.clear.Statement.{statement}
+use Rattle.tbo.proofs.clear.Tie as tie
+
+returns : tie.Need-returns
+returns c = (refl, λ v. omega (arith, zeros 122 v))
+
+pub clear-spec : {M : Type 1} → statement M
+clear-spec = tie.close (tie.spec returns)

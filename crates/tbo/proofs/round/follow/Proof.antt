@@ -1,0 +1,59 @@
+-- The invariant: w stands k steps back.
+use Prim.Native.Nat.{ℕ, _+_, _*_, _-_, _≤_}
+use mathlib.Core.Path.{_≡_, _∙_, ap}
+use mathlib.Core.List.{List, []}
+use denote.Ref.{now}
+use native.Mathlib.Omega.{arith}
+use Rattle.net.proofs.Shapes.{valid-proper}
+use Rattle.net.specs.Graph.{netOf}
+use Rattle.net.specs.Plan.{rows}
+use Rattle.marked.specs.Net.{at}
+use Rattle.tbo.specs.Chains.{back}
+use Rattle.tbo.proofs.Chains.{back-in, back-none, back-step}
+use Rattle.tbo.proofs.round.follow.Statement.{statement}
+use Rattle.tbo.proofs.round.follow.Tie as tie
+
+abbrev Inv-loop : tie.InvT-loop
+Inv-loop n e from to pred v w₀ k₀ w k = (k ≤ 3 * n + 2) × ((times mark : List ℕ) → w ≡ back (netOf (rows n e times from to mark)) (at pred) k v)
+
+abbrev μ-loop : tie.MeasureT-loop
+μ-loop n e from to pred v w₀ k₀ w k = 3 * n + 2 - k
+
+loop-holds : tie.Need-loop-holds Inv-loop μ-loop
+loop-holds c = (omega arith, λ times mark. back-none _ _ _)
+
+mul-loop : tie.Need-mul-loop Inv-loop μ-loop
+mul-loop c = omega (arith, c .before .pre .0 .operations)
+
+add-loop : tie.Need-add-loop Inv-loop μ-loop
+add-loop c = omega (arith, c .before .pre .0 .operations)
+
+step-back-requires : tie.Need-step-back-requires Inv-loop μ-loop
+step-back-requires c κs = (c .before .before .pre .0, (c .before .before .pre .1 .0 [] [] .inside, omega (arith, c .before .before .pre .0 .operations, c .before .loop .inv .1 [] [], back-in (c .before .before .pre .1 .0 [] []) (valid-proper (c .before .before .pre .0) [] []) (c .before .loop .k) (c .before .before .args .v) (c .before .before .pre .1 .1))))
+
+add-k : tie.Need-add-k Inv-loop μ-loop
+add-k c = omega (arith, c .before .before .before .pre .0 .operations)
+
+loop-less : tie.Need-loop-less Inv-loop μ-loop
+loop-less c = omega arith
+
+loop-again : tie.Need-loop-again Inv-loop μ-loop
+loop-again c = (omega arith, λ times mark. back-step _ _ _ _ _ _ (c .before .before .loop .inv .1 times mark) (c .step-back .ensures times mark))
+
+returns : tie.Need-returns Inv-loop μ-loop
+returns c = λ times mark. c .before .loop .inv .1 times mark ∙ ap (λ (z : ℕ). back (netOf (rows (c .before .before .args .n) (c .before .before .args .e) times (now (c .before .before .args .from)) (now (c .before .before .args .to)) mark)) (at (now (c .before .before .args .pred))) z (c .before .before .args .v)) (omega arith)
+
+pub follow-spec : {M : Type 1} → statement M
+follow-spec =
+    tie.close
+    (tie.spec
+    Inv-loop
+    μ-loop
+    loop-holds
+    mul-loop
+    add-loop
+    step-back-requires
+    add-k
+    loop-less
+    loop-again
+    returns)
