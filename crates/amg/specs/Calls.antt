@@ -1,0 +1,47 @@
+-- What each exported function promises: the contract of its call, of a reply that its word tells.
+use mathlib.Core.Path.{_≡_}
+use mathlib.Core.List.{List}
+use Prim.Native.Nat.{ℕ}
+use Rattle.reader.specs.declared.graph.Look.{Look}
+use Rattle.reader.specs.Reply.{LookReply}
+use Rattle.firing.specs.declared.step.Answer.{Answer}
+use Rattle.stepping.specs.declared.reply.Start.{Start}
+use Rattle.stepping.specs.declared.reply.Ran.{Ran}
+use Rattle.stepping.specs.Numbers.{startNumber, startPlace, stepNumber, stepPlace}
+use Rattle.stepping.specs.Replies.{RunReply, StartReply, StepReply}
+use Rattle.waiting.specs.declared.reply.Wait.{Wait}
+use Rattle.waiting.specs.Reply.{WaitReply}
+use Rattle.bounds.specs.declared.reply.Bounds.{Bounds}
+use Rattle.bounds.specs.Reply.{BoundsReply}
+use Rattle.report.specs.declared.reply.Report.{Report}
+use Rattle.report.specs.Reply.{ReportReply}
+use Rattle.amg.specs.Tables.{Tables, shownIn, valuesIn}
+use Rattle.amg.specs.Numbers.{boundsCount, boundsNumber, boundsPlace, lookNumber, lookPlace, reportCount, reportNumber, reportPlace, waitCount, waitNumber, waitPlace}
+use Rattle.amg.specs.Word.{word}
+
+-- The word w tells a reply that the call's contract allows.
+pub record Told {A : Type 0} (wordOf : A → ℕ) (Allowed : A → Type 0) (w : ℕ) : Type 0 where
+  pub reply : A
+  pub allowed : Allowed reply
+  pub told : w ≡ wordOf reply
+
+abbrev pub LookCall : List ℕ → Tables → ℕ → Tables → Type 0
+LookCall f before w after = Told (λ (r : Look). word (lookNumber (r .verdict)) (lookPlace (r .verdict)) 0) (λ (r : Look). LookReply f r × (after ≡ shownIn (r .verdict) (r .graph) before)) w
+
+abbrev pub StartCall : List ℕ → List ℕ → ℕ → List ℕ → Type 0
+StartCall f before w after = Told (λ (r : Start). word (startNumber r) (startPlace r) 0) (λ (r : Start). StartReply f before r after) w
+
+abbrev pub StepCall : List ℕ → List ℕ → ℕ → ℕ → List ℕ → Type 0
+StepCall f before t w after = Told (λ (r : Answer). word (stepNumber r) (stepPlace r) 0) (λ (r : Answer). StepReply f before t r after) w
+
+abbrev pub RunCall : List ℕ → List ℕ → List ℕ → ℕ → List ℕ → Type 0
+RunCall f before list w after = Told (λ (r : Ran). word (stepNumber (r .answer)) (stepPlace (r .answer)) (r .fired)) (λ (r : Ran). RunReply f before list r after) w
+
+abbrev pub WaitCall : List ℕ → List ℕ → ℕ → ℕ → Type 0
+WaitCall f m t w = Told (λ (r : Wait). word (waitNumber r) (waitPlace r) (waitCount r)) (λ (r : Wait). WaitReply f m t r) w
+
+abbrev pub BoundsCall : List ℕ → List ℕ → List ℕ → ℕ → List ℕ → List ℕ → Type 0
+BoundsCall f before values w after values′ = Told (λ (r : Bounds). word (boundsNumber r) (boundsPlace r) (boundsCount r)) (λ (r : Bounds). BoundsReply f before r after × (values′ ≡ valuesIn r values)) w
+
+abbrev pub ReportCall : List ℕ → List ℕ → ℕ → List ℕ → Type 0
+ReportCall f before w after = Told (λ (r : Report). word (reportNumber r) (reportPlace r) (reportCount r)) (λ (r : Report). ReportReply f before r after) w

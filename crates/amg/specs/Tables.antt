@@ -1,0 +1,30 @@
+-- What look and bounds tell beyond the word: in arrays that the caller lends.
+use mathlib.Core.List.{List, [], _∷_}
+use Prim.Native.Nat.{ℕ}
+use Rattle.reader.specs.declared.graph.Graph.{Graph}
+use Rattle.reader.specs.declared.graph.Look.{Look}
+use Rattle.reader.specs.declared.graph.Verdict.{Verdict}
+use Rattle.reader.specs.declared.graph.Verdict.the-variants.{Accepted, Refused as LookRefused}
+use Rattle.bounds.specs.declared.reply.Bounds.{Bounds}
+use Rattle.bounds.specs.declared.reply.Bounds.the-variants.{Bounded, Refused as BoundsRefused}
+
+-- The arrays lent to look.
+pub record Tables : Type 0 where
+  pub counts : List ℕ
+  pub times : List ℕ
+  pub from : List ℕ
+  pub to : List ℕ
+  pub mark : List ℕ
+
+abbrev pub tables : List ℕ → List ℕ → List ℕ → List ℕ → List ℕ → Tables
+tables counts times from to mark = record { counts = counts; times = times; from = from; to = to; mark = mark }
+
+-- The arrays after look: the graph's N and E, times and rows, unused entries 0; a refusal writes nothing.
+abbrev pub shownIn : Verdict → Graph → Tables → Tables
+shownIn Accepted g before = tables (g .operations ∷ g .edges ∷ []) (g .times) (g .from) (g .to) (g .mark)
+shownIn (LookRefused number place) g before = before
+
+-- The five values after bounds: TBO's numerator and denominator, TBIO, TT and TCE; a refusal writes nothing.
+abbrev pub valuesIn : Bounds → List ℕ → List ℕ
+valuesIn (Bounded a b tbio tt tce len) before = a ∷ b ∷ tbio ∷ tt ∷ tce ∷ []
+valuesIn (BoundsRefused number place) before = before

@@ -1,0 +1,216 @@
+// The seven calls, each with its line: the name, the refusal's number and place, the values, and the lent memory afterwards.
+use crate::print::bytes;
+use crate::print::entries;
+use crate::print::head;
+use crate::print::number;
+use crate::print::word;
+use bounds::reply::Bounds;
+use reader::graph::Graph;
+use reader::graph::Verdict;
+use report::reply::Report;
+use stepping::reply::start_number;
+use stepping::reply::start_place;
+use stepping::reply::step_number;
+use stepping::reply::step_place;
+use waiting::reply::Wait;
+ghost use Prim.Native.Nat.{_≤_};
+ghost use Rattle.reader.specs.Accepted.{Accepted};
+
+fn long(x: u32) -> u64 {
+    x as u64
+}
+
+fn wide(x: u8) -> u64 {
+    x as u64
+}
+
+fn times(xs: &[u32; Graph::OPERATIONS], n: usize)
+    requires { ⌜ n ≤ 40 ⌝ }
+{
+    let mut i = 0;
+    while i < n {
+        number(long(xs[i]));
+        i += 1;
+    }
+}
+
+fn rows<'a>(
+    from: &'a [u8; Graph::EDGES],
+    to: &'a [u8; Graph::EDGES],
+    mark: &'a [u8; Graph::EDGES],
+    n: usize,
+)
+    requires { ⌜ n ≤ 128 ⌝ }
+{
+    let mut e = 0;
+    while e < n {
+        number(wide(from[e]));
+        number(wide(to[e]));
+        number(wide(mark[e]));
+        e += 1;
+    }
+}
+
+// Nothing is lent to look but the file, so its memory is empty.
+fn look_graph(g: Graph)
+    requires { ⌜ Accepted g ⌝ }
+{
+    head(b"look", 0, 0);
+    number(g.operations as u64);
+    number(g.edges as u64);
+    times(&g.times, g.operations);
+    rows(&g.from, &g.to, &g.mark, g.edges);
+    word(b" memory\n");
+}
+
+fn look_line(file: &[u8]) {
+    let looked = reader::look(file);
+    let verdict = looked.verdict;
+    if let Verdict::Refused {
+        number: refusal,
+        place,
+    } = verdict {
+        head(b"look", refusal, place);
+        word(b" memory\n");
+        return;
+    }
+    let g = looked.graph;
+    look_graph(g);
+}
+
+fn start_line(file: &[u8], marking: &mut [u8]) {
+    let reply = stepping::start(file, marking);
+    head(b"start", start_number(reply), start_place(reply));
+    bytes(marking);
+}
+
+// The transition asked for: the list's first entry, or one that no graph has.
+fn first(list: &[u16]) -> u16 {
+    if list.len() == 0 {
+        return 65535;
+    }
+    list[0]
+}
+
+fn step_line(file: &[u8], marking: &mut [u8], transition: u16) {
+    let reply = stepping::step(file, marking, transition);
+    head(b"step", step_number(reply), step_place(reply));
+    bytes(marking);
+}
+
+fn run_line(file: &[u8], marking: &mut [u8], list: &[u16]) {
+    let reply = stepping::run(file, marking, list);
+    let answer = reply.answer;
+    head(b"run", step_number(answer), step_place(answer));
+    number(reply.fired as u64);
+    bytes(marking);
+}
+
+fn wait_line(file: &[u8], marking: &[u8], transition: u16) {
+    let reply = waiting::wait(file, marking, transition);
+    match reply {
+        Wait::Waits(firings) => {
+            head(b"wait", 0, 0);
+            number(firings as u64);
+        }
+        Wait::Refused {
+            number: refusal,
+            place,
+        } => {
+            head(b"wait", refusal, place);
+            number(0);
+        }
+    }
+    bytes(marking);
+}
+
+fn bounds_values(reply: Bounds) {
+    match reply {
+        Bounds::Bounded {
+            numerator,
+            denominator,
+            tbio,
+            tt,
+            tce,
+            length,
+        } => {
+            head(b"bounds", 0, 0);
+            number(numerator);
+            number(denominator);
+            number(tbio as u64);
+            number(tt as u64);
+            number(tce as u64);
+            number(length as u64);
+        }
+        Bounds::Refused {
+            number: refusal,
+            place,
+        } => {
+            head(b"bounds", refusal, place);
+            word(b" 0 0 0 0 0 0");
+        }
+    }
+}
+
+fn bounds_line(file: &[u8], list: &mut [u16]) {
+    let reply = bounds::bounds(file, list);
+    bounds_values(reply);
+    entries(list);
+}
+
+// How long the report's buffer is.
+fn room(asked: usize) -> usize
+    ensures { λ r. ⌜ r ≤ 4096 ⌝ }
+{
+    if asked == 0 {
+        return report::ROOM;
+    }
+    if report::ROOM < asked {
+        return report::ROOM;
+    }
+    asked
+}
+
+fn report_values(reply: Report) {
+    match reply {
+        Report::Written { length } => {
+            head(b"report", 0, 0);
+            number(length as u64);
+        }
+        Report::Refused {
+            number: refusal,
+            place,
+            length,
+        } => {
+            head(b"report", refusal, place);
+            number(length as u64);
+        }
+    }
+}
+
+fn report_in(file: &[u8], buffer: &mut [u8]) {
+    let reply = report::report(file, buffer);
+    report_values(reply);
+    bytes(buffer);
+}
+
+fn report_line(file: &[u8], asked: usize) {
+    let mut buffer = [170u8; report::ROOM];
+    let n = room(asked);
+    report_in(file, &mut buffer[..n]);
+}
+
+// The call that the letter names; false where it names none.
+pub fn call(letter: u8, file: &[u8], list: &mut [u16], marking: &mut [u8]) -> bool {
+    match letter {
+        b'L' => look_line(file),
+        b'S' => start_line(file, marking),
+        b'T' => step_line(file, marking, first(list)),
+        b'R' => run_line(file, marking, list),
+        b'W' => wait_line(file, marking, first(list)),
+        b'B' => bounds_line(file, list),
+        b'P' => report_line(file, marking.len()),
+        _ => return false,
+    }
+    true
+}

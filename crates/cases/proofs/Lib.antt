@@ -1,0 +1,10 @@
+pub mod Trying
+pub mod Searching
+pub mod Greedy
+pub mod Bounds
+pub mod Longest
+pub mod Waits
+pub mod Rows
+pub mod Calls
+pub mod Sentences
+pub mod Cases

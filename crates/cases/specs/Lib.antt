@@ -1,0 +1,3 @@
+pub mod Files
+pub mod Said
+pub mod Table

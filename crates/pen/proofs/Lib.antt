@@ -1,0 +1,6 @@
+pub mod DigitLaws
+pub mod PutLaws
+pub mod Again
+pub mod Held
+pub mod Lent
+pub mod Calls

@@ -1,0 +1,24 @@
+-- A line end is one byte, and it is stored.
+use mathlib.Core.Path.{refl}
+use borrow.Author.Needs.{needs}
+use native.Mathlib.Omega.{arith}
+use Rattle.pen.specs.Lines.{lineEnd}
+use Rattle.pen.proofs.put_newline.Statement.{statement}
+use Rattle.pen.proofs.put_newline.Tie as tie
+
+slice-write-buf : tie.Need-slice-write-buf
+unfolding lineEnd
+slice-write-buf c = omega arith
+
+add-result : tie.Need-add-result
+add-result c = search needs
+
+same-length : tie.Need-same-length
+same-length c = search needs
+
+returns : tie.Need-returns
+unfolding lineEnd
+returns c = record { place = refl; bytes = refl }
+
+pub put-newline-spec : {M : Type 1} → statement M
+put-newline-spec = tie.close (tie.spec slice-write-buf add-result same-length returns)

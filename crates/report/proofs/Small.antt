@@ -1,0 +1,115 @@
+-- How large the numbers of an accepted graph's report can be, so that its text fits 4,096 bytes.
+use mathlib.Core.Path.{_≡_}
+use mathlib.Core.List.{List, [], _∷_}
+use Prim.Native.Nat.{ℕ, zero, suc, _*_, _+_, _<_, _≤_}
+use native.Mathlib.Nat.{le-of-mul-le-mul-right, mul-le-mul-right}
+use native.Mathlib.Omega.{arith}
+use lib.ListN.{length}
+use Rattle.marked.specs.Lists.{All}
+use Rattle.marked.specs.Sums.{sum, upto}
+use Rattle.marked.specs.Net.{Net, Proper, Walk, at, go, lasts, stop, tokens}
+use Rattle.marked.specs.Circuits.{Circuit, froms}
+use Rattle.marked.specs.Distance.{Least}
+use Rattle.marked.specs.Bounds.{Largest, Reduced}
+use Rattle.marked.specs.Wait.{WaitSum}
+use Rattle.marked.proofs.Pigeonhole.{pigeonhole}
+use Rattle.marked.proofs.Shorten.{shorten}
+use Rattle.marked.proofs.Sizes.{circuit-length, walk-places}
+use Rattle.marked.proofs.Wait.{others-all}
+use Rattle.marked.proofs.Walks.{froms-in, length-froms}
+use Rattle.net.specs.Graph.{netOf, startOf}
+use Rattle.net.proofs.Shapes.{limited-proper}
+use Rattle.reader.specs.Accepted.{Accepted}
+use Rattle.reader.specs.Reply.{shown}
+use Rattle.reader.specs.declared.graph.Graph.{Graph}
+use Rattle.paths.proofs.Bounded.{effort-most}
+use Rattle.paths.proofs.Order.{tbio-most, tt-most}
+use Rattle.tbo.proofs.Rows.{sized-few, sized-short}
+use Rattle.bounds.proofs.Granted.{accepted-passable, accepted-ready}
+use Rattle.report.specs.Limits.{Limited}
+use Rattle.report.specs.Text.{reportText}
+use Rattle.report.specs.Reply.{Numbers}
+use Rattle.report.proofs.FitLaws.{report-fits}
+
+-- What each entry has, the i-th has.
+all-at : (P : ℕ → Type 0) (xs : List ℕ) (i : ℕ) → All P xs → i < length xs → P (at xs i)
+all-at P [] i h l = absurd (omega arith)
+all-at P (x ∷ xs) zero h l = h .0
+all-at P (x ∷ xs) (suc i) h l = all-at P xs i (h .1) (omega arith)
+
+-- n numbers of at most k each.
+upto-most : (x : ℕ → ℕ) (k n : ℕ) → ((u : ℕ) → u < n → x u ≤ k) → upto x n ≤ n * k
+unfolding upto
+upto-most x k zero h = omega arith
+upto-most x k (suc n) h = omega (arith, upto-most x k n (λ u l. h u (omega arith)), h n (omega arith))
+
+-- A walk along places of at most k each.
+walk-most : {g : Net} {a b : ℕ} {ps : List ℕ} (f : ℕ → ℕ) (k : ℕ) → ((p : ℕ) → p < g .places → f p ≤ k) → Walk g a b ps → sum f ps ≤ length ps * k
+unfolding sum
+walk-most f k h stop = omega arith
+walk-most f k h (go p l w) = omega (arith, h p l, walk-most f k h w)
+
+module _ {g : Graph} (ok : Accepted g) where
+  abbrev net : Net
+  net = netOf (shown g)
+
+  abbrev start : ℕ → ℕ
+  start = startOf (shown g)
+
+  proper : Proper net
+  proper = limited-proper (ok .limited)
+
+  few : {a b : ℕ} {ps : List ℕ} → Walk net a b ps → tokens start ps ≤ length ps * 8
+  few w = walk-most start 8 (sized-few (accepted-ready ok .sized)) w
+
+  -- A circuit has at most 122 places, each of at most 1,000,000 units and 8 tokens.
+  ring-length : {c : ℕ} {ps : List ℕ} → Circuit net c ps → length ps ≤ 122
+  ring-length c = omega (arith, circuit-length net proper c, ok .limited .operations)
+
+  ring-lasts : {c : ℕ} {ps : List ℕ} → Circuit net c ps → lasts net ps ≤ 122000000
+  ring-lasts c = omega (arith, ring-length c, walk-most (λ p. net .time (net .src p)) 1000000 (sized-short (accepted-ready ok .sized)) (c .walk))
+
+  -- TBO in lowest terms has no more than the circuit that attains it.
+  pub tbo-small : {a b : ℕ} → Largest net start a b → Reduced a b → (a ≤ 122000000) × (b ≤ 976)
+  tbo-small {a} {b} l r =
+      let c = l .circuit in
+      let t : ℕ = lasts net (l .ring) in
+      let m : ℕ = tokens start (l .ring) in
+      let some : 1 ≤ m = ok .live _ _ (c .walk) (c .some) in
+      let low : b ≤ m = r .least t m some (omega (arith, l .attains)) in
+      let up : a ≤ t = le-of-mul-le-mul-right {k = m} (omega (arith, l .attains, mul-le-mul-right t low)) some in
+      (omega (arith, ring-lasts c), omega (arith, few (c .walk), ring-length c))
+
+  -- The fewest tokens stand on a walk that comes to no transition twice.
+  least-small : {t u d : ℕ} → Least net start t u d → d ≤ 976
+  least-small l =
+      let s = shorten net (l .walk) in
+      let w = pigeonhole (net .transitions) (froms net (s .way)) (froms-in proper (s .walk)) (s .simple .1) in
+      omega (arith, l .least (s .way) (s .walk), few (s .walk), w, length-froms net (s .way), ok .limited .operations)
+
+  -- So a wait is short.
+  wait-small : {t w : ℕ} → WaitSum net start t w → w ≤ 122 * 976
+  wait-small x =
+      omega (arith, x .adds, others-all (x .each), upto-most (x .fewest) 976 (net .transitions) (λ u l. least-small (x .each u l)), ok .limited .operations)
+
+  module _ {a b x y z : ℕ} {ring : List ℕ} {wait : ℕ → ℕ} (r : Numbers (shown g) a b x y z ring wait) where
+    limited : Limited (g .operations) (g .edges) a b x y z ring wait
+    limited =
+        let pass = accepted-passable ok in
+        let most : z ≤ 40000000 = omega (arith, r .tce, effort-most pass) in
+        let more : y ≤ z = tt-most pass (r .tt) (r .tce) in
+        record {
+          counts = record { operations = ok .limited .operations; edges = ok .limited .edges };
+          numerator = omega (arith, tbo-small (r .largest) (r .reduced) .0);
+          denominator = omega (arith, tbo-small (r .largest) (r .reduced) .1);
+          tbio = omega (arith, tbio-most (r .tbio) (r .tt));
+          total = omega arith;
+          tce = omega arith;
+          circuit = ring-length (r .circuit .circuit);
+          places = λ i l. omega (arith, all-at (_< net .places) ring i (walk-places (r .circuit .circuit .walk)) l, ok .limited .operations, ok .limited .edges);
+          waited = λ t l. omega (arith, wait-small (r .waits t l));
+        }
+
+    -- The report of every accepted graph fits.
+    pub numbers-fit : length (reportText (g .operations) (g .edges) a b x y z ring wait) ≤ 4096
+    numbers-fit = report-fits limited

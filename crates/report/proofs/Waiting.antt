@@ -1,0 +1,46 @@
+-- The waits from the start: the bytes hold the start, so what is summed over them is the wait.
+use mathlib.Core.Path.{_≡_, subst, sym}
+use mathlib.Core.List.{List}
+use Prim.Native.Nat.{_*_, _+_, _<_, ℕ}
+use native.Mathlib.Omega.{arith}
+use borrow.Author.Count.{below-more}
+use lib.ListN.{length, set}
+use lib.Seq.{getD-set-other, getD-set-same}
+use Rattle.marked.specs.Net.{Net, at}
+use Rattle.marked.specs.Firing.{Same}
+use Rattle.marked.specs.Distance.{Least}
+use Rattle.marked.specs.Wait.{WaitSum}
+use Rattle.net.specs.Start.{Started}
+use Rattle.reader.proofs.Alike.{tokens-same}
+use Rattle.waiting.specs.Work.{Summed}
+use Rattle.report.specs.Work.{Waited}
+
+-- Markings that agree on the places have the same fewest tokens,
+least-same : {g : Net} {m k : ℕ → ℕ} {a b d : ℕ} → Same g m k → Least g m a b d → Least g k a b d
+least-same s l =
+    record { way = l .way; walk = l .walk; has = omega (arith, l .has, tokens-same s (l .walk)); least = λ ps w. omega (arith, l .least ps w, tokens-same s w) }
+
+-- and so the same waits.
+wait-sum-same : {g : Net} {m k : ℕ → ℕ} {t w : ℕ} → Same g m k → WaitSum g m t w → WaitSum g k t w
+wait-sum-same s x = record { fewest = x .fewest; each = λ u l. least-same s (x .each u l); adds = x .adds }
+
+-- The first k entries are the waits of their transitions.
+pub record Summing (n e : ℕ) (from to marking : List ℕ) (k : ℕ) (waits : List ℕ) : Type 0 where
+  pub sums : (t : ℕ) → t < k → Summed n e from to marking t (at waits t)
+
+module _ {n e : ℕ} {from to marking : List ℕ} where
+  pub summing-none : (waits : List ℕ) → Summing n e from to marking 0 waits
+  summing-none waits = record { sums = λ t l. absurd (omega arith) }
+
+  -- One wait more.
+  pub summing-more : {k w : ℕ} (waits : List ℕ) → k < length waits → Summing n e from to marking k waits → Summed n e from to marking k w → Summing n e from to marking (k + 1) (set waits k w)
+  summing-more {k} {w} waits h s x = record {
+    sums = below-more (λ t. Summed n e from to marking t (at (set waits k w) t)) k
+        (λ t l. subst (λ (v : ℕ). Summed n e from to marking t v) (sym (getD-set-other waits k t w 0 (λ e. omega arith))) (s .sums t l))
+        (subst (λ (v : ℕ). Summed n e from to marking k v) (sym (getD-set-same waits k w 0 h)) x);
+  }
+
+  -- All of them, over the bytes of the start.
+  pub summing-waited : {k : ℕ} {mark a before after : List ℕ} → Started n mark 0 (3 * n + 2 * e) a marking → k ≡ 3 * n + 2 → Summing n e from to marking k after → length after ≡ length before → Waited n e from to mark before after
+  summing-waited {mark = mark} start j s long =
+      record { each = λ times joined t l. wait-sum-same (λ p h. start .filled p (omega arith) h) (s .sums t (omega arith) .sum times mark joined); long = long }

@@ -1,0 +1,5 @@
+pub mod Words
+pub mod Text
+pub mod Limits
+pub mod Reply
+pub mod Work

@@ -1,0 +1,49 @@
+// `report`: the text of a file's report, in a lent buffer.
+mod answer;
+pub mod lines;
+pub mod reply;
+pub mod text;
+mod waits;
+
+use answer::answer;
+use reader::graph::Verdict;
+use reader::look;
+use reply::Report;
+use text::write_refused;
+ghost use Rattle.report.specs.Reply.{ReportReply};
+
+// No report is longer than this.
+pub const ROOM: usize = 4096;
+
+// Writes the report of a file, or the one line of its refusal by 1 to 9, and says how long it is. A buffer without room is refused by 14 before the file is looked at, with nothing written.
+pub fn report(file: &[u8], buffer: &mut [u8]) -> Report
+    ensures { λ r. ⌜ ReportReply (now (file .entry)) (now (buffer .entry)) r (now (buffer .exit)) ⌝ }
+{
+    if buffer.len() < ROOM {
+        return Report::Refused {
+            number: 14,
+            place: 0,
+            length: 0,
+        };
+    }
+    let looked = look(file);
+    let verdict = looked.verdict;
+    if let Verdict::Refused { number, place } = verdict {
+        let length = write_refused(buffer, number, place);
+        return Report::Refused {
+            number,
+            place,
+            length,
+        };
+    }
+    let g = looked.graph;
+    answer(
+        g.operations,
+        g.edges,
+        &g.times,
+        &g.from,
+        &g.to,
+        &g.mark,
+        buffer,
+    )
+}

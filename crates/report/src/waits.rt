@@ -1,0 +1,31 @@
+// The wait of each transition from the start.
+use net::EDGES;
+use net::PLACES;
+use net::start::start_marking;
+use waiting::sum::wait_sum;
+ghost use Prim.Native.Nat.{_+_, _*_, _≤_};
+ghost use lib.ListN.{length};
+ghost use Rattle.net.specs.Valid.{Single, Valid};
+ghost use Rattle.report.specs.Work.{Waited};
+
+pub fn start_waits<'a>(
+    n: usize,
+    e: usize,
+    from: &'a [u8; EDGES],
+    to: &'a [u8; EDGES],
+    mark: &'a [u8; EDGES],
+    waits: &mut [u32],
+)
+    requires { ⌜ Valid n e (now from) (now to) ⌝ }
+    requires { ⌜ Single n e (now mark) ⌝ }
+    requires { ⌜ 3 * n + 2 ≤ length (now waits) ⌝ }
+    ensures { λ _. ⌜ Waited n e (now (from .entry)) (now (to .entry)) (now (mark .entry)) (now (waits .entry)) (now (waits .exit)) ⌝ }
+{
+    let mut marking = [0u8; PLACES];
+    start_marking(n, e, mark, &mut marking);
+    let mut t = 0;
+    while t < 3 * n + 2 {
+        waits[t] = wait_sum(n, e, from, to, &marking, t);
+        t += 1;
+    }
+}
