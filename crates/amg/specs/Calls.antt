@@ -6,7 +6,7 @@ use Rattle.reader.specs.declared.graph.Look.{Look}
 use Rattle.reader.specs.Reply.{LookReply}
 use Rattle.firing.specs.declared.step.Answer.{Answer}
 use Rattle.stepping.specs.declared.reply.Start.{Start}
-use Rattle.stepping.specs.declared.reply.Ran.{Ran}
+use Rattle.running.specs.declared.repeat.Ran.{Ran}
 use Rattle.stepping.specs.Numbers.{startNumber, startPlace, stepNumber, stepPlace}
 use Rattle.stepping.specs.Replies.{RunReply, StartReply, StepReply}
 use Rattle.waiting.specs.declared.reply.Wait.{Wait}

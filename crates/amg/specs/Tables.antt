@@ -2,7 +2,6 @@
 use mathlib.Core.List.{List, [], _∷_}
 use Prim.Native.Nat.{ℕ}
 use Rattle.reader.specs.declared.graph.Graph.{Graph}
-use Rattle.reader.specs.declared.graph.Look.{Look}
 use Rattle.reader.specs.declared.graph.Verdict.{Verdict}
 use Rattle.reader.specs.declared.graph.Verdict.the-variants.{Accepted, Refused as LookRefused}
 use Rattle.bounds.specs.declared.reply.Bounds.{Bounds}

@@ -10,10 +10,12 @@ use Rattle.reader.specs.Outcome.{accepted, passed, refusal, refused as stopped,
 use Rattle.reader.specs.declared.graph.Graph.{Graph}
 use Rattle.reader.specs.declared.graph.Look.{Look}
 use Rattle.reader.specs.declared.graph.Verdict.the-variants.{Accepted as Passed, Refused as Stopped}
-use Rattle.reader.proofs.Clear.{Clear, clear-10, clear-more, given, lowest-whole, sound}
+use Rattle.file.proofs.Clear.{Clear, clear-more, given, lowest-whole, sound}
+use Rattle.reader.proofs.Outcomes.{clear-10}
 use Rattle.paths.specs.Answers.{Told}
 use Rattle.paths.specs.declared.Sums.{Sums}
-use Rattle.tbo.specs.Bounded.{Bounded as Certified, InLowest}
+use Rattle.tbo.specs.Bounded.{Bounded as Certified}
+use Rattle.fraction.specs.Terms.{InLowest}
 use Rattle.circuit.specs.Chosen.{Handed}
 use Rattle.circuit.proofs.Unique.{chosen-same}
 use Rattle.bounds.specs.Rows.{boundsRows}

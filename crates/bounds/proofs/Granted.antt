@@ -6,8 +6,9 @@ use Rattle.marked.specs.Net.{at}
 use Rattle.reader.specs.Accepted.{Accepted}
 use Rattle.reader.specs.Reply.{shown}
 use Rattle.reader.specs.declared.graph.Graph.{Graph}
+use Rattle.reader.proofs.Accepting.{accepted-valid}
 use Rattle.paths.specs.Passable.{Passable}
-use Rattle.tbo.specs.Rows.{Sized}
+use Rattle.fraction.specs.Rows.{Sized}
 use Rattle.bounds.specs.Work.{Ready}
 
 module _ {g : Graph} (a : Accepted g) where
@@ -18,9 +19,8 @@ module _ {g : Graph} (a : Accepted g) where
 
   accepted-sized : Sized (g .operations) (g .edges) (g .times) (g .from) (g .to) (g .mark)
   accepted-sized =
-      let l = a .limited in
       record {
-        valid = record { operations = l .operations; edges = l .edges; leaves = l .leaves; enters = l .enters; ends = l .ends };
+        valid = accepted-valid a;
         some = a .operations .low-met;
         short = short;
         single = a .marked;

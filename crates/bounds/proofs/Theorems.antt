@@ -8,7 +8,7 @@ use Rattle.net.specs.Plan.{Plan}
 use Rattle.net.specs.Graph.{netOf, startOf}
 use Rattle.reader.specs.Accepted.{Accepted}
 use Rattle.reader.specs.Reply.{LookReply, shown}
-use Rattle.reader.specs.Labels.{SameButLabels}
+use Rattle.file.specs.Labels.{SameButLabels}
 use Rattle.reader.specs.Outcome.{Ends, Outcome, accepted, passed}
 use Rattle.reader.specs.declared.graph.Graph.{Graph}
 use Rattle.reader.specs.declared.graph.Look.{Look}

@@ -4,7 +4,7 @@ use mathlib.Core.List.{List, [], _∷_}
 use lib.ListN.{length}
 use Rattle.net.specs.Graph.{netOf}
 use Rattle.net.specs.Plan.{Plan}
-use Rattle.reader.specs.Refusals.{Ask, nothing, whole}
+use Rattle.file.specs.Refusals.{Ask, nothing, whole}
 use Rattle.reader.specs.Reply.{shown}
 use Rattle.reader.specs.Outcome.{from10}
 use Rattle.reader.specs.declared.graph.Graph.{Graph}

@@ -1,16 +1,11 @@
 // The reply for a graph that look has accepted: row 14, then the bounds.
+use crate::measure::measure;
 use crate::reply::Bounds;
-use circuit::choose;
 use net::EDGES;
 use net::OPERATIONS;
-use net::TRANSITIONS;
-use paths::path_sums;
-use tbo::largest;
-use tbo::lowest::reduce;
 ghost use Rattle.net.specs.Plan.{rows};
 ghost use Rattle.bounds.specs.Work.{Answered, Ready};
 
-// The pair that `largest` finds is the time and the tokens of a closed walk: the certificate in d is for that pair, and only the reply is in lowest terms.
 pub fn answer<'a>(
     n: usize,
     e: usize,
@@ -29,17 +24,13 @@ pub fn answer<'a>(
             place: 0,
         };
     }
-    let mut d = [0u64; TRANSITIONS];
-    let most = largest(n, e, times, from, to, mark, &mut d);
-    let length = choose(n, e, times, from, to, mark, most.num, most.den, &d, circuit);
-    let sums = path_sums(n, e, times, from, to, mark);
-    let tbo = reduce(most.num, most.den);
+    let found = measure(n, e, times, from, to, mark, circuit);
     Bounds::Bounded {
-        numerator: tbo.num,
-        denominator: tbo.den,
-        tbio: sums.tbio,
-        tt: sums.tt,
-        tce: sums.tce,
-        length,
+        numerator: found.numerator,
+        denominator: found.denominator,
+        tbio: found.tbio,
+        tt: found.tt,
+        tce: found.tce,
+        length: found.length,
     }
 }

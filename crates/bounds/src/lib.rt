@@ -1,5 +1,6 @@
 // `bounds`: TBO with its circuit, TBIO, TT and TCE of a file's graph.
-pub mod answer;
+mod answer;
+pub mod measure;
 pub mod reply;
 
 use answer::answer;

@@ -8,11 +8,12 @@ use Rattle.marked.proofs.Decide.{both?, each?, eq?, given?, le?, lt?, same?}
 use Rattle.marked.proofs.Reach.{reach}
 use Rattle.net.specs.Graph.{netOf, startOf}
 use Rattle.net.proofs.Shapes.{limited-proper}
-use Rattle.reader.specs.Refusals.{Given, Sound}
+use Rattle.file.specs.Refusals.{Given, Sound}
 use Rattle.reader.specs.Accepted.{Accepted}
 use Rattle.reader.specs.Reply.{shown}
 use Rattle.reader.specs.declared.graph.Graph.{Graph}
-use Rattle.reader.proofs.Clear.{clear-10, clear-more, sound}
+use Rattle.reader.proofs.Outcomes.{clear-10}
+use Rattle.file.proofs.Clear.{clear-more, sound}
 use Rattle.marking.specs.Rows.{Marking, Reached, runRows}
 use Rattle.firing.specs.Step.{LowestEmpty, Steps, waits}
 use Rattle.firing.specs.declared.step.Answer.the-variants.{Refused}

@@ -2,9 +2,9 @@
 use mathlib.Core.List.{List, [], _∷_}
 use Prim.Native.Nat.{suc, zero, ℕ}
 use Rattle.marked.proofs.Decide.{eq?, given?}
-use Rattle.reader.specs.Refusals.{Ask, Given, Kept, Lowest, nothing, row, whole}
+use Rattle.file.specs.Refusals.{Ask, Given, Kept, Lowest, nothing, row, whole}
 use Rattle.reader.specs.Outcome.{from10}
-use Rattle.reader.proofs.Clear.{lowest-whole}
+use Rattle.file.proofs.Clear.{lowest-whole}
 use Rattle.cases.proofs.Trying.{Tried, and, below, fails, so, try}
 
 -- The tests of a row: whether it is kept, and whether x is the lowest place at which it is broken.

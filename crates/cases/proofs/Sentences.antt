@@ -5,7 +5,7 @@ use Prim.Native.Nat.{_+_, ℕ}
 use Rattle.marked.proofs.Decide.{both?, eq?, le?}
 use Rattle.net.specs.Plan.{Plan}
 use Rattle.net.specs.Graph.{netOf}
-use Rattle.reader.specs.Refusals.{Sound}
+use Rattle.file.specs.Refusals.{Sound}
 use Rattle.reader.specs.Reply.{LookReply, shown}
 use Rattle.reader.specs.Outcome.{Ends, passed, refusal, refused as by-row, unread}
 use Rattle.reader.specs.declared.graph.Look.{Look}

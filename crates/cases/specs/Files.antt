@@ -2,7 +2,7 @@
 use mathlib.Core.List.{List, [], _∷_, _++_}
 use Prim.Native.Nat.{_%_, _*_, _+_, _/_, ℕ}
 use lib.ListN.{length, replicate}
-use Rattle.reader.specs.Rows.{magic}
+use Rattle.file.specs.Rows.{magic}
 
 -- An edge from one node to another, without a mark, or with one (a star in document 01).
 pub data Edge : Type 0 where

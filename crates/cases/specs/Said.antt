@@ -7,7 +7,7 @@ use Rattle.marked.specs.Bounds.{Largest, Reduced}
 use Rattle.marked.specs.Wait.{WaitSum}
 use Rattle.net.specs.Plan.{Plan}
 use Rattle.net.specs.Graph.{netOf, startOf}
-use Rattle.reader.specs.Refusals.{Ask}
+use Rattle.file.specs.Refusals.{Ask}
 use Rattle.reader.specs.Reply.{shown}
 use Rattle.reader.specs.Outcome.{Ends, accepted, refusal}
 use Rattle.reader.specs.declared.graph.Graph.{Graph}

@@ -14,8 +14,8 @@ use Rattle.net.specs.Ends.{dstOf, srcOf}
 use Rattle.net.specs.Graph.{netOf}
 use Rattle.net.specs.Valid.{Valid}
 use Rattle.net.proofs.Shapes.{dst-back, dst-empty, dst-full, dst-op, src-empty, src-full, src-op}
-use Rattle.circuit.specs.Search.{Cut, First, Next, Rival}
-use Rattle.circuit.specs.Lists.{Headed, Linked, Listed, Listing, TightIn, drawn}
+use Rattle.tight.specs.Lists.{Headed, Linked, Listed, Listing, Next, TightIn, drawn}
+use Rattle.search.specs.Ways.{Cut, First, Rival}
 
 -- Places of T in g are places of U in h, with the same ends.
 pub record Carries (g h : Net) (T U : ℕ → Type 0) : Type 0 where

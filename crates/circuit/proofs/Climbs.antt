@@ -13,10 +13,10 @@ use Rattle.marked.specs.Circuits.{froms}
 use Rattle.marked.proofs.Entries.{distinct-cross}
 use Rattle.marked.proofs.Pigeonhole.{pigeonhole}
 use Rattle.marked.proofs.Walks.{ends-same, froms-append, join, length-froms, part, starts, stays}
-use Rattle.circuit.specs.Search.{Noted, Rival, Trace}
-use Rattle.circuit.specs.Search.Trace.{start, step}
-use Rattle.circuit.specs.Lists.{Linked, Listed, drawn}
-use Rattle.circuit.specs.Turns.{Measured, Written}
+use Rattle.tight.specs.Lists.{Linked, Listed, drawn}
+use Rattle.search.specs.Ways.{Noted, Rival, Trace}
+use Rattle.search.specs.Ways.Trace.{start, step}
+use Rattle.circuit.specs.Writing.{Measured, Written}
 
 module _ {g : Net} {T : ℕ → Type 0} where
   -- Where places of T leave from transitions, a way of them does.

@@ -2,26 +2,21 @@
 use mathlib.Core.List.{List, _∷_}
 use Prim.Native.Nat.{_*_, _+_, _<_, ℕ}
 use native.Mathlib.Omega.{arith}
+use lib.ListN.{replicate}
 use Rattle.marked.specs.Net.{at}
 use Rattle.net.specs.Plan.{Plan, rows}
 use Rattle.net.specs.Graph.{netOf, startOf}
 use Rattle.net.proofs.Shapes.{valid-proper}
-use Rattle.tbo.specs.Rows.{Sized}
+use Rattle.fraction.specs.Rows.{Sized}
 use Rattle.tbo.specs.Bounded.{Bounded}
-use Rattle.circuit.specs.Search.{Cut, Noted}
-use Rattle.circuit.specs.Lists.{Headed, Linked, Listed, Listing, TightIn, Whole, drawn}
-use Rattle.circuit.specs.Turns.{Lowest, Written}
+use Rattle.tight.specs.Lists.{Headed, Lengthened, Linked, Listed, Listing, TightIn, drawn}
+use Rattle.tight.proofs.ListRows.{listing-start}
+use Rattle.search.specs.Ways.{Cut, Noted}
+use Rattle.search.specs.Turns.{Lowest}
+use Rattle.circuit.specs.Writing.{Written}
 use Rattle.circuit.specs.Chosen.{Handed}
 use Rattle.circuit.proofs.Agree.{cut-move, ends-apart, first-move, headed, into, linked, onto}
 use Rattle.circuit.proofs.Choice.{chosen-way, some-place}
-
--- What the search asks of the lists.
-module _ {n e : ℕ} {times f t mark : List ℕ} (o : Sized n e times f t mark) {a b : ℕ} {d head next src dst : List ℕ} (l : Listing (rows n e times f t mark) a b d 0 head next src dst) where
-  pub sized-linked : Linked (3 * n + 2) (3 * n + 2 * e) next src dst
-  sized-linked = linked l (valid-proper (o .valid) times mark) (omega (arith, o .valid .operations)) (omega (arith, o .valid .operations, o .valid .edges)) (ends-apart (o .valid))
-
-  pub sized-headed : Whole head next src dst → Headed (3 * n + 2) (3 * n + 2 * e) head src dst
-  sized-headed w = headed l (w .heads)
 
 module _ {g : Plan} {a b : ℕ} {d head next src dst : List ℕ} (l : Listing g a b d 0 head next src dst) (x : Bounded g a b d) {via : List ℕ} {r : ℕ} (o : Lowest (netOf g .transitions) (netOf g .places) src dst via r) where
   -- Below r no tight place has a way back,
@@ -32,22 +27,43 @@ module _ {g : Plan} {a b : ℕ} {d head next src dst : List ℕ} (l : Listing g 
       rw (into l .enters p k t, into l .leaves p k t) c
 
   -- but some has.
-  pub found : r < netOf g .places
-  found = some-place (netOf g) (startOf g) a b (at d) (x .certifies) below (x .largest)
+  some-found : r < netOf g .places
+  some-found = some-place (netOf g) (startOf g) a b (at d) (x .certifies) below (x .largest)
 
-  pub fits : Listed dst r
-  fits = o .fits found
-
-  pub noted : Noted (drawn (netOf g .transitions) (netOf g .places) src dst) (Listed dst) (at dst r) (at src r) (at via)
-  noted = o .noted found
-
-  pub handed : {before after : List ℕ} {len : ℕ} → Written (netOf g .transitions) (netOf g .places) src dst r before len after → Handed (netOf g) (startOf g) a b before len after
-  handed w =
+  ring-handed : {before after : List ℕ} {len : ℕ} → Written (netOf g .transitions) (netOf g .places) src dst r before len after → Handed (netOf g) (startOf g) a b before len after
+  ring-handed w =
       let n = first-move (onto l) (into l) (w .first) in
-      let t = onto l .fits r found fits in
+      let fits = o .fits some-found in
+      let t = onto l .fits r some-found fits in
       record {
         ring = r ∷ w .way;
-        chosen = chosen-way (netOf g) (startOf g) a b (at d) (x .certifies) below found t (w .way) (rw (onto l .enters r found fits, onto l .leaves r found fits) at n);
+        chosen = chosen-way (netOf g) (startOf g) a b (at d) (x .certifies) below some-found t (w .way) (rw (onto l .enters r some-found fits, onto l .leaves r some-found fits) at n);
         long = omega (arith, w .count);
         written = w .written;
       }
+
+-- The lists as they were made: from nothing listed to every tight place.
+module _ {n e : ℕ} {times f t mark : List ℕ} (o : Sized n e times f t mark) {a b : ℕ} {d links starts head next src dst : List ℕ} (w : Lengthened (rows n e times f t mark) a b d (3 * n + 2 * e) 0 (replicate 122 (3 * n + 2 * e)) links starts (replicate 376 122) head next src dst) where
+  all-listed : Listing (rows n e times f t mark) a b d 0 head next src dst
+  all-listed = w .more (listing-start times mark a b d links starts (o .valid))
+
+  -- What the search asks of them,
+  pub sized-linked : Linked (3 * n + 2) (3 * n + 2 * e) next src dst
+  sized-linked = linked all-listed (valid-proper (o .valid) times mark) (omega (arith, o .valid .operations)) (omega (arith, o .valid .operations, o .valid .edges)) (ends-apart (o .valid))
+
+  pub sized-headed : Headed (3 * n + 2) (3 * n + 2 * e) head src dst
+  sized-headed = headed all-listed (w .whole .heads)
+
+  -- and what its answer gives.
+  module _ (x : Bounded (rows n e times f t mark) a b d) {via : List ℕ} {r : ℕ} (s : Lowest (3 * n + 2) (3 * n + 2 * e) src dst via r) where
+    pub found : r < 3 * n + 2 * e
+    found = some-found all-listed x s
+
+    pub fits : Listed dst r
+    fits = s .fits found
+
+    pub noted : Noted (drawn (3 * n + 2) (3 * n + 2 * e) src dst) (Listed dst) (at dst r) (at src r) (at via)
+    noted = s .noted found
+
+    pub handed : {before after : List ℕ} {len : ℕ} → Written (3 * n + 2) (3 * n + 2 * e) src dst r before len after → Handed (netOf (rows n e times f t mark)) (startOf (rows n e times f t mark)) a b before len after
+    handed = ring-handed all-listed x s

@@ -1,9 +1,4 @@
-pub mod Trails
-pub mod Moves
-pub mod Turning
 pub mod Climbs
-pub mod Listings
-pub mod ListRows
 pub mod Agree
 pub mod Choice
 pub mod Unique

@@ -1,4 +1,2 @@
 pub mod Chosen
-pub mod Search
-pub mod Lists
-pub mod Turns
+pub mod Writing

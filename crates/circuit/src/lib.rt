@@ -1,6 +1,4 @@
 // The circuit that attains TBO: of those that do, written lowest place first, the first in dictionary order.
-mod list;
-mod search;
 mod write;
 
 use net::EDGES;
@@ -11,7 +9,7 @@ ghost use Prim.Native.Nat.{_+_, _*_, _≤_};
 ghost use lib.ListN.{length};
 ghost use Rattle.net.specs.Plan.{rows};
 ghost use Rattle.net.specs.Graph.{netOf, startOf};
-ghost use Rattle.tbo.specs.Rows.{Sized};
+ghost use Rattle.fraction.specs.Rows.{Sized};
 ghost use Rattle.tbo.specs.Bounded.{Bounded};
 ghost use Rattle.circuit.specs.Chosen.{Handed};
 
@@ -40,7 +38,7 @@ pub fn choose(
     let mut next = [0u16; PLACES];
     let mut src = [0u8; PLACES];
     let mut dst = [122u8; PLACES];
-    list::list_tight(
+    tight::list_tight(
         n,
         e,
         times,

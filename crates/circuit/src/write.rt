@@ -1,15 +1,15 @@
 // The circuit in travel order: the notes of the search lead back from its end.
+use fraction::widen::index;
+use fraction::widen::number;
 use net::PLACES;
 use net::TRANSITIONS;
-use tbo::widen::index;
-use tbo::widen::number;
 ghost use mathlib.Core.Logic.{_≢_};
-ghost use Prim.Native.Nat.{_+_, _<_, _≤_};
+ghost use Prim.Native.Nat.{_<_, _≤_};
 ghost use lib.ListN.{length};
 ghost use Rattle.marked.specs.Net.{at};
-ghost use Rattle.circuit.specs.Search.{Noted};
-ghost use Rattle.circuit.specs.Lists.{Linked, Listed, drawn};
-ghost use Rattle.circuit.specs.Turns.{Measured, Written};
+ghost use Rattle.tight.specs.Lists.{Linked, Listed, drawn};
+ghost use Rattle.search.specs.Ways.{Noted};
+ghost use Rattle.circuit.specs.Writing.{Measured, Written};
 
 // How many places the circuit has: those that lead back from goal to root, and the one before them.
 fn count_back(

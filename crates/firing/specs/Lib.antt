@@ -1,4 +1,4 @@
 pub mod Step
 pub mod Search
 pub mod Move
-pub mod Few
+pub mod Work

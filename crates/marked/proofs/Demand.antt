@@ -7,11 +7,11 @@ use native.Mathlib.Omega.{arith}
 use lib.ListN.{length, length-append}
 use Rattle.marked.specs.Net.{Net, Proper}
 use Rattle.marked.specs.Circuits.{Live}
-use Rattle.marked.specs.Firing.{Fires, Reaches, count, still, then}
+use Rattle.marked.specs.Firing.{Fires, Reaches, Same, count, still, then}
 use Rattle.marked.specs.Wait.{WaitSum, Waits, others, unless}
 use Rattle.marked.proofs.Hits.{hit-other}
 use Rattle.marked.proofs.Tallies.{count-append, upto-same}
-use Rattle.marked.proofs.Least.{least-unique}
+use Rattle.marked.proofs.Least.{least-same, least-unique}
 use Rattle.marked.proofs.Alive.{live-fires}
 use Rattle.marked.proofs.Fired.{after, fire-after, fires-join}
 use Rattle.marked.proofs.Wait.{wait-demand}
@@ -31,6 +31,10 @@ wait-sum-unique {g} {t} x y =
       upto-same (λ (u : ℕ). unless (ℕ-discrete u t) (x .fewest u)) (λ (u : ℕ). unless (ℕ-discrete u t) (y .fewest u)) (g .transitions)
           (λ u l. rw (least-unique (x .each u l) (y .each u l))),
     )
+
+-- Markings that agree on the places have the same sum.
+pub wait-sum-same : {g : Net} {m k : ℕ → ℕ} {t w : ℕ} → Same g m k → WaitSum g m t w → WaitSum g k t w
+wait-sum-same s x = record { fewest = x .fewest; each = λ u l. least-same s (x .each u l); adds = x .adds }
 
 -- Firings without t, k of them.
 pub record Run (g : Net) (m : ℕ → ℕ) (t k : ℕ) : Type 0 where

@@ -2,13 +2,22 @@
 use mathlib.Core.Path.{sym}
 use mathlib.Core.Logic.{_≢_}
 use mathlib.Core.List.{List, [], _++_, _∷_}
-use Prim.Native.Nat.{ℕ}
+use Prim.Native.Nat.{_<_, suc, zero, ℕ}
+use native.Mathlib.Omega.{arith}
+use lib.ListN.{length}
 use Rattle.marked.specs.Lists.{All, Avoids, Distinct}
+use Rattle.marked.specs.Net.{at}
 
 -- What follows entry by entry holds of every entry.
 pub all-map : {P Q : ℕ → Type 0} → ((x : ℕ) → P x → Q x) → (xs : List ℕ) → All P xs → All Q xs
 all-map f [] a = tt
 all-map f (x ∷ xs) a = (f x (a .0), all-map f xs (a .1))
+
+-- What holds of every entry holds of the i-th.
+pub all-at : (P : ℕ → Type 0) (xs : List ℕ) (i : ℕ) → All P xs → i < length xs → P (at xs i)
+all-at P [] i h l = absurd (omega arith)
+all-at P (x ∷ xs) zero h l = h .0
+all-at P (x ∷ xs) (suc i) h l = all-at P xs i (h .1) (omega arith)
 
 -- What holds of two lists holds of the first,
 pub all-left : (P : ℕ → Type 0) (xs ys : List ℕ) → All P (xs ++ ys) → All P xs

@@ -1,5 +1,6 @@
 pub mod Hits
 pub mod Entries
+pub mod Fresh
 pub mod Tallies
 pub mod Pigeonhole
 pub mod Find

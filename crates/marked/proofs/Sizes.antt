@@ -1,7 +1,7 @@
--- How large a circuit can be: its places, its time, its tokens.
+-- How large a walk and a circuit can be: its places, its time, its tokens.
 use mathlib.Core.Path.{_≡_, ap, refl}
 use mathlib.Core.List.{List, [], _∷_}
-use Prim.Native.Nat.{_<_, _≤_, ℕ}
+use Prim.Native.Nat.{_*_, _<_, _≤_, ℕ}
 use native.Mathlib.Omega.{arith}
 use lib.ListN.{length}
 use Rattle.marked.specs.Lists.{All, Avoids, Distinct}
@@ -30,6 +30,12 @@ distinct-places g (p ∷ ps) d = (avoids-places g p ps (d .0), distinct-places g
 pub walk-places : {g : Net} {a b : ℕ} {ps : List ℕ} → Walk g a b ps → All (_< g .places) ps
 walk-places stop = tt
 walk-places (go p h w) = (h, walk-places w)
+
+-- The sum along places of at most k each.
+pub walk-most : {g : Net} {a b : ℕ} {ps : List ℕ} (f : ℕ → ℕ) (k : ℕ) → ((p : ℕ) → p < g .places → f p ≤ k) → Walk g a b ps → sum f ps ≤ length ps * k
+unfolding sum
+walk-most f k h stop = omega arith
+walk-most f k h (go p l w) = omega (arith, h p l, walk-most f k h w)
 
 module _ (g : Net) (ok : Proper g) {a : ℕ} {ps : List ℕ} (c : Circuit g a ps) where
   -- A circuit has no more places than the net has transitions,

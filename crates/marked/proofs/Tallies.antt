@@ -21,6 +21,12 @@ unfolding upto
 upto-add x y zero = omega arith
 upto-add x y (suc n) = omega (arith, upto-add x y n)
 
+-- n numbers of at most k each.
+pub upto-most : (x : ℕ → ℕ) (k n : ℕ) → ((u : ℕ) → u < n → x u ≤ k) → upto x n ≤ n * k
+unfolding upto
+upto-most x k zero h = omega arith
+upto-most x k (suc n) h = omega (arith, upto-most x k n (λ u l. h u (omega arith)), h n (omega arith))
+
 -- A sum of noughts.
 upto-zero : (x : ℕ → ℕ) (n : ℕ) → ((u : ℕ) → u < n → x u ≡ 0) → upto x n ≡ 0
 unfolding upto

@@ -1,6 +1,6 @@
 -- What the helpers of rows 10 and 11 answer. No public promise needs these.
 use mathlib.Core.Path.{_≡_}
-use mathlib.Core.Bool.{Bool, false, true}
+use mathlib.Core.Bool.{Bool}
 use mathlib.Core.List.{List}
 use Prim.Native.Nat.{_*_, _+_, _<_, _≤_, ℕ}
 use lib.ListN.{length}
@@ -10,15 +10,11 @@ use Rattle.marked.specs.Firing.{Reaches}
 use Rattle.net.specs.Plan.{Joined, Plan, rows}
 use Rattle.net.specs.Ends.{dstOf, srcOf}
 use Rattle.net.specs.Graph.{netOf, startOf}
+use Rattle.net.specs.Work.{Says}
 use Rattle.reader.specs.Accepted.{Accepted}
-use Rattle.reader.specs.Refusals.{Given, Sound}
+use Rattle.file.specs.Refusals.{Given, Sound}
 use Rattle.reader.specs.declared.graph.Graph.{Graph}
 use Rattle.marking.specs.Rows.{runRows}
-
--- A test tells whether P holds.
-pub record Tells (P : Type 0) (b : Bool) : Type 0 where
-  pub holds : b ≡ true → P
-  pub fails : b ≡ false → P → ⊥
 
 -- One byte a place, none above 1.
 pub record Bytes (marking : List ℕ) (places : ℕ) : Type 0 where
@@ -42,10 +38,10 @@ pub record Running (g : Plan) : Type 0 where
   pub joined : (a : ℕ) → a ≤ g .operations + 1 → Joined g a
   pub live : Live (netOf g) (startOf g)
 
--- Row 11 of such a graph, whatever its times: r tells whether some sequence of firings leads from the start to the marking.
+-- Row 11 of such a graph, whatever its times: r says whether some sequence of firings leads from the start to the marking.
 pub record Decided (n e : ℕ) (from to mark marking : List ℕ) (r : Bool) : Type 0 where
-  pub tells : (times : List ℕ) → Running (rows n e times from to mark)
-      → Tells (Reaches (netOf (rows n e times from to mark)) (startOf (rows n e times from to mark)) (at marking)) r
+  pub says : (times : List ℕ) → Running (rows n e times from to mark)
+      → Says (Reaches (netOf (rows n e times from to mark)) (startOf (rows n e times from to mark)) (at marking)) r
 
 -- The graph of these rows.
 abbrev pub graphOf : ℕ → ℕ → List ℕ → List ℕ → List ℕ → List ℕ → Graph

@@ -1,3 +1,4 @@
+pub mod Answers
 pub mod Shapes
 pub mod Relaxing
 pub mod Fewest
@@ -5,5 +6,3 @@ pub mod Starting
 pub mod Table
 pub mod Safe
 pub mod Strong
-pub mod Ranks
-pub mod Deaths

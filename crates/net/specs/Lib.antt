@@ -6,6 +6,3 @@ pub mod Work
 pub mod Distance
 pub mod Relax
 pub mod Start
-pub mod Dead
-pub mod Climb
-pub mod Closing

@@ -1,9 +1,9 @@
 // Prints the dead transition, if there is one, and the distances from every transition, for document 01's graphs P1 to P6 at the start.
+use dead::first_dead;
 use net::EDGES;
 use net::Found;
 use net::PLACES;
 use net::TRANSITIONS;
-use net::dead::first_dead;
 use net::distances::distances;
 use net::start::start_marking;
 ghost use Prim.Native.Nat.{_+_, _*_, _<_, _≤_};

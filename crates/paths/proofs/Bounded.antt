@@ -7,6 +7,7 @@ use native.Mathlib.Omega.{arith}
 use lib.ListN.{length}
 use Rattle.marked.specs.Sums.{sum, upto}
 use Rattle.marked.specs.Net.{at}
+use Rattle.marked.proofs.Tallies.{upto-most}
 use Rattle.net.specs.Plan.{Plan, rows, timeIn}
 use Rattle.paths.specs.Longest.{effort}
 use Rattle.paths.specs.Passable.{Passable}
@@ -23,9 +24,7 @@ unfolding upto
 times-more times i = let same : i + 1 - 1 ≡ i = omega arith in rw add-one (omega (arith, ap (at times) same))
 
 pub times-most : (f : ℕ → ℕ) (m n : ℕ) → ((i : ℕ) → 1 ≤ i → i ≤ n → f i ≤ m) → upto (λ (i : ℕ). f (i + 1)) n ≤ n * m
-unfolding upto
-times-most f m zero h = omega arith
-times-most f m (suc n) h = omega (arith, times-most f m n (λ i k l. h i k (omega arith)), h (n + 1) (omega arith) (omega arith))
+times-most f m n h = upto-most (λ (i : ℕ). f (i + 1)) m n (λ i l. h (i + 1) (omega arith) (omega arith))
 
 total-most : (m : ℕ) (d : List ℕ) → ((v : ℕ) → at d v ≤ m) → total d ≤ length d * m
 unfolding sum

@@ -1,7 +1,7 @@
 -- What an edge offers its target is what some path to it takes; so an entry raised to the offer is too.
 use mathlib.Core.Path.{_≡_, _∙_, ap, refl, sym}
 use mathlib.Core.List.{List, [], _++_, _∷_}
-use Prim.Native.Nat.{_+_, _<_, suc, zero, ℕ}
+use Prim.Native.Nat.{_+_, _<_, ℕ}
 use native.Mathlib.Decide.{ℕ-discrete}
 use native.Mathlib.Omega.{arith}
 use lib.ListN.{getD, length, length-set, replicate, set}
@@ -9,17 +9,13 @@ use lib.Seq.{getD-set-other, getD-set-same}
 use borrow.Author.Tests.{eq-eqb, ne-eqb}
 use Rattle.marked.specs.Sums.{sum}
 use Rattle.marked.specs.Net.{at}
+use Rattle.marked.proofs.Fresh.{zeros}
 use Rattle.marked.proofs.Pigeonhole.{sum-append}
 use Rattle.net.specs.Plan.{rows, timeIn}
 use Rattle.paths.specs.Modified.{begins, go, nodeTime, stays, stop}
 use Rattle.paths.specs.Passable.{Passable}
 use Rattle.paths.specs.Work.{Chain, Backed, offer}
 use Rattle.paths.proofs.Links.{then}
-
-zeros : (m v : ℕ) → getD {A = ℕ} (replicate m 0) v 0 ≡ 0
-zeros zero v = refl
-zeros (suc m) zero = refl
-zeros (suc m) (suc v) = zeros m v
 
 -- A path from a node to itself takes nothing: so the entries may begin at 0.
 pub begun : {n e : ℕ} {times from to mark : List ℕ} → Passable (rows n e times from to mark) → Backed n e times from to mark (replicate 42 0)

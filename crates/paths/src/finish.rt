@@ -1,6 +1,6 @@
 // When each node is done, if nothing but data is waited for: longest paths, by raising the targets of the edges until nothing changes.
-use crate::NODES;
 use net::EDGES;
+use net::NODES;
 use net::OPERATIONS;
 ghost use mathlib.Core.Path.{_≡_};
 ghost use Prim.Native.Nat.{_<_, _≤_};

@@ -2,6 +2,7 @@
 use finish::finishes;
 use finish::node;
 use net::EDGES;
+use net::NODES;
 use net::OPERATIONS;
 ghost use mathlib.Core.Path.{_≡_};
 ghost use Prim.Native.Nat.{ℕ, _+_, _<_, _≤_};
@@ -13,9 +14,6 @@ ghost use Rattle.paths.specs.Answers.{Told};
 ghost use Rattle.paths.specs.Work.{Latest, Later};
 
 pub mod finish;
-
-// Room for the source, every operation and the sink.
-pub const NODES: usize = OPERATIONS + 2;
 
 // A path's sum is at most 40,000,000, and would be at most 120,000,000 with three times an operation: u32 has the room.
 pub struct Sums {

@@ -39,6 +39,10 @@ module _ {l z : List ℕ} {at r : ℕ} {a : List ℕ} (p : Put l at a z r) where
 pub first-room : {l : List ℕ} {at : ℕ} {a : List ℕ} (b : List ℕ) → Fits l at (a ++ b) → Fits l at a
 first-room {a = a} b f = record { room = omega (arith, f .room, length-append a b) }
 
+-- what is put determines the buffer and the place behind it
+pub put-unique : {l y z : List ℕ} {at r s : ℕ} {a b : List ℕ} → a ≡ b → Put l at a y r → Put l at b z s → (r ≡ s) × (y ≡ z)
+put-unique {l} {at = at} e p q = (p .place ∙ ap (λ (t : List ℕ). at + length t) e ∙ sym (q .place), p .bytes ∙ ap (λ (t : List ℕ). sets l at t) e ∙ sym (q .bytes))
+
 -- what a writer wrote is put
 pub wrote-put : (w : Writer) (a : List ℕ) → Put (now (w .buf)) (w .at) a (now (wrote w a .buf)) (wrote w a .at)
 wrote-put w a = record { place = refl; bytes = refl }
@@ -54,6 +58,14 @@ put-byte p d e = then-put p (record { place = e; bytes = refl })
 -- one more byte of a word
 pub put-next : {l z : List ℕ} {at : ℕ} (s : List ℕ) (i : ℕ) → i < length s → Put l at (take i s) z (at + i) → Put l at (take (i + 1) s) (set z (at + i) (getD s i 0)) (at + (i + 1))
 put-next s i h p = rw (add-one i, take-suc s i 0 h) (put-byte p (getD s i 0) (omega arith))
+
+-- texts that agree one by one agree in a row
+pub each-same : (x y : ℕ → List ℕ) (n : ℕ) → ((i : ℕ) → i < n → x i ≡ y i) → each x n ≡ each y n
+each-same x y zero h = refl
+each-same x y (suc n) h =
+    let a = each-same x y n (λ i l. h i (omega arith)) in
+    let b = h n (omega arith) in
+    cc
 
 -- the first i texts are shorter than the first n
 each-length : (text : ℕ → List ℕ) (i n : ℕ) → i < n → length (each text i) + length (text i) ≤ length (each text n)

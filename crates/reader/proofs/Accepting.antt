@@ -9,20 +9,21 @@ use Rattle.marked.specs.Circuits.{Live}
 use Rattle.marked.proofs.Shorten.{live-by-circuits}
 use Rattle.net.specs.Plan.{Plan, Limited}
 use Rattle.net.specs.Graph.{netOf, startOf}
+use Rattle.net.specs.Valid.{Single, Valid}
 use Rattle.net.proofs.Shapes.{limited-proper}
-use Rattle.reader.specs.Limits.{Within}
-use Rattle.reader.specs.File.{operationsOf, edgesOf, planOf}
-use Rattle.reader.specs.Refusals.{Sound}
-use Rattle.reader.specs.Rows.{Transition, Alive, table}
+use Rattle.file.specs.Limits.{Within}
+use Rattle.file.specs.File.{operationsOf, edgesOf, planOf}
+use Rattle.file.specs.Refusals.{Sound}
+use Rattle.file.specs.Rows.{Transition, Alive, table}
 use Rattle.reader.specs.Reply.{Shows, Judged, Beside, LookReply, shown}
-use Rattle.reader.specs.Labels.{Agree}
+use Rattle.file.specs.Labels.{Agree}
 use Rattle.reader.specs.Accepted.{Accepted}
 use Rattle.reader.specs.declared.graph.Graph.{Graph}
 use Rattle.reader.specs.declared.graph.Look.{Look}
 use Rattle.reader.specs.declared.graph.Verdict.{Verdict}
 use Rattle.reader.specs.declared.graph.Verdict.the-variants.{Accepted as accepted-verdict}
-use Rattle.reader.proofs.Alike.{Wired, wired-sym, edge-same, node-same, transition-same, joined-same, linked-same, alive-same}
-use Rattle.reader.proofs.Agree.{agree-wired, agree-sym, operation-same, timely-same}
+use Rattle.file.proofs.Alike.{Wired, wired-sym, edge-same, node-same, transition-same, joined-same, linked-same, alive-same}
+use Rattle.file.proofs.Agree.{agree-wired, agree-sym, operation-same, timely-same}
 
 -- A circuit leaves from a transition of the net.
 circuit-in : {g : Net} {a b : ℕ} {ps : List ℕ} → Proper g → Walk g a b ps → 1 ≤ length ps → a < g .transitions
@@ -92,3 +93,13 @@ module _ (f : List ℕ) (r : Look) (e : r .verdict ≡ accepted-verdict) (h : Lo
 
   pub accepted : Accepted (r .graph)
   accepted = sound-accepted f (r .graph) accepted-sound accepted-shows
+
+-- What an accepted graph gives to the code that is lent its rows.
+module _ {g : Graph} (a : Accepted g) where
+  pub accepted-valid : Valid (g .operations) (g .edges) (g .from) (g .to)
+  accepted-valid =
+      let l = a .limited in
+      record { operations = l .operations; edges = l .edges; leaves = l .leaves; enters = l .enters; ends = l .ends }
+
+  pub accepted-single : Single (g .operations) (g .edges) (g .mark)
+  accepted-single = record { operations = a .limited .operations; edges = a .limited .edges; marks = a .marked }

@@ -10,10 +10,10 @@ use lib.ListN.{length, getD}
 use Rattle.little.specs.Little.{byteAt}
 use Rattle.marked.proofs.Decide.{le?, eq?, both?, given?, same?, each?}
 use Rattle.net.specs.Plan.{Plan}
-use Rattle.reader.specs.Limits.{Within}
-use Rattle.reader.specs.File.{trailerAt, operationsAt, operationsOf, edgesAt, edgesOf, backOf, edgeByte}
-use Rattle.reader.specs.Refusals.{Ask, Kept, Lowest}
-use Rattle.reader.specs.Rows.{Sized, Signed, Counted, Laid, magic, Timely, Allowed, Touched, Linked}
+use Rattle.file.specs.Limits.{Within}
+use Rattle.file.specs.File.{trailerAt, operationsAt, operationsOf, edgesAt, edgesOf, backOf, edgeByte}
+use Rattle.file.specs.Refusals.{Ask, Kept, Lowest}
+use Rattle.file.specs.Rows.{Sized, Signed, Counted, Laid, magic, Timely, Allowed, Touched, Linked}
 use Rattle.reader.proofs.Ways.{seek}
 
 -- The rules of rows 1 to 7.

@@ -7,9 +7,10 @@ use native.Mathlib.Decide.{ℕ-discrete, decLt}
 use lib.ListN.{getD}
 use lib.Seq.{ext-getD}
 use Rattle.net.specs.Plan.{Plan}
-use Rattle.reader.specs.Refusals.{Ask, Given, Sound}
-use Rattle.reader.specs.Rows.{table}
-use Rattle.reader.specs.Reply.{Filled, Shows, Judged, Beside, LookReply}
+use Rattle.file.specs.Refusals.{Ask, Given, Sound}
+use Rattle.file.specs.Rows.{table}
+use Rattle.tables.specs.Filled.{Filled}
+use Rattle.reader.specs.Reply.{Shows, Judged, Beside, LookReply}
 use Rattle.reader.specs.declared.graph.Graph.{Graph}
 use Rattle.reader.specs.declared.graph.Look.{Look}
 use Rattle.reader.specs.declared.graph.Verdict.{Verdict}

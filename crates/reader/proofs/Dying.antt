@@ -6,14 +6,15 @@ use native.Mathlib.Omega.{arith}
 use native.Mathlib.Decide.{ℕ-discrete}
 use Rattle.marked.specs.Net.{at, tokens}
 use Rattle.marked.specs.Circuits.{Circuit}
+use Rattle.marked.proofs.Walks.{tokens-same}
 use Rattle.net.specs.declared.Found.{Found}
 use Rattle.net.specs.Ends.{startAt}
 use Rattle.net.specs.Graph.{netOf, startOf}
-use Rattle.net.specs.Dead.{Dies, Lives, FirstDead, found, none}
-use Rattle.reader.specs.Refusals.{each}
-use Rattle.reader.specs.Rows.{Transition, Alive}
-use Rattle.reader.specs.Work.{Finds, tokened}
-use Rattle.reader.proofs.Alike.{tokens-same}
+use Rattle.dead.specs.Dead.{Dies, Lives, FirstDead, found, none}
+use Rattle.file.specs.Refusals.{each}
+use Rattle.file.specs.Rows.{Transition, Alive}
+use Rattle.file.specs.Work.{Finds}
+use Rattle.reader.specs.Work.{tokened}
 
 -- The marking is the start.
 module _ (n e : ℕ) (from to mark marking : List ℕ) (start : (p : ℕ) → p < 3 * n + 2 * e → at marking p ≡ startAt n (at mark) p) where

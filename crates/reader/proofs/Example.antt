@@ -4,7 +4,7 @@ use mathlib.Core.List.{List, [], _∷_}
 use Prim.Native.Nat.{ℕ}
 use Rattle.little.specs.Little.{word, quad}
 use Rattle.net.specs.Ends.{srcOf, dstOf, startAt}
-use Rattle.reader.specs.File.{trailerAt, operationsAt, operationsOf, edgesAt, edgesOf, backOf, timeIn, edgeByte}
+use Rattle.file.specs.File.{trailerAt, operationsAt, operationsOf, edgesAt, edgesOf, backOf, timeIn, edgeByte}
 use Rattle.reader.specs.declared.graph.Verdict.the-variants.{Refused}
 use Rattle.reader.proofs.Total.{lookOf}
 

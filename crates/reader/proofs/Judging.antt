@@ -5,17 +5,19 @@ use mathlib.Core.List.{List}
 use native.Mathlib.Omega.{arith}
 use Rattle.net.specs.Plan.{Joined, Marked}
 use Rattle.net.specs.Valid.{Valid}
-use Rattle.reader.specs.File.{operationsOf, edgesOf, planOf}
-use Rattle.reader.specs.Refusals.{row, each, Kept}
-use Rattle.reader.specs.Rows.{Framed, Node, Transition, Linked, Alive, table}
+use Rattle.file.specs.File.{operationsOf, edgesOf, planOf}
+use Rattle.file.specs.Refusals.{row, each, Kept}
+use Rattle.file.specs.Rows.{Framed, Node, Transition, Linked, Alive, table}
 use Rattle.reader.specs.Reply.{Shows, Beside}
-use Rattle.reader.specs.Work.{Finds, wires, tokened}
+use Rattle.file.specs.Work.{Finds}
+use Rattle.links.specs.Work.{wires}
+use Rattle.reader.specs.Work.{tokened}
 use Rattle.reader.specs.declared.graph.Graph.{Graph}
 use Rattle.reader.specs.declared.graph.Verdict.{Verdict}
 use Rattle.reader.specs.declared.graph.Verdict.the-variants.{Accepted, Refused}
 use Rattle.net.specs.declared.Found.{Found}
-use Rattle.reader.proofs.Answers.{finds-map}
-use Rattle.reader.proofs.Alike.{Wired, wired-sym, MarkedAlike, node-same, transition-same, linked-same, joined-same, alive-same}
+use Rattle.file.proofs.Answers.{finds-map}
+use Rattle.file.proofs.Alike.{Wired, wired-sym, MarkedAlike, node-same, transition-same, linked-same, joined-same, alive-same}
 
 module _ (f : List ℕ) (g : Graph) (s : Shows (planOf f) (operationsOf f) (edgesOf f) g) where
   tokened-wired : Wired (tokened (g .operations) (g .edges) (g .from) (g .to) (g .mark)) (planOf f)

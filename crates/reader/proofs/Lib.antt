@@ -1,15 +1,6 @@
-pub mod Answers
-pub mod Clear
-pub mod Order
-pub mod Inside
-pub mod Filling
-pub mod Alike
-pub mod Agree
 pub mod Labels
 pub mod Determined
 pub mod Accepting
-pub mod Reach
-pub mod Ticking
 pub mod Judging
 pub mod Dying
 pub mod Outcomes

@@ -3,14 +3,15 @@ use Prim.Native.Nat.{ℕ}
 use mathlib.Core.Path.{_≡_, ap, subst}
 use mathlib.Core.List.{List}
 use native.Mathlib.Omega.{arith}
-use Rattle.reader.specs.Refusals.{Ask, Given}
+use Rattle.file.specs.Refusals.{Ask, Given}
 use Rattle.reader.specs.Reply.{LookReply}
-use Rattle.reader.specs.Labels.{SameButLabels}
-use Rattle.reader.specs.Outcome.{Ends, Outcome, accepted, passed, refused, unread}
+use Rattle.file.specs.Labels.{SameButLabels}
+use Rattle.reader.specs.Outcome.{Ends, Outcome, accepted, from10, passed, refused, unread}
 use Rattle.reader.specs.declared.graph.Graph.{Graph}
 use Rattle.reader.specs.declared.graph.Look.{Look}
 use Rattle.reader.specs.declared.graph.Verdict.{Verdict}
 use Rattle.reader.specs.declared.graph.Verdict.the-variants.{Accepted, Refused}
+use Rattle.file.proofs.Clear.{Clear, clear-more, clear-none}
 use Rattle.reader.proofs.Determined.{look-determined, not-both, same-number, same-place}
 use Rattle.reader.proofs.Labels.{look-label-blind}
 
@@ -54,3 +55,12 @@ outcome-alike s (passed p a h) = passed (s _ p) a h
 -- so files that differ only in labels do.
 pub outcome-label-blind : {f g : List ℕ} {further : Graph → List Ask} {o : Outcome} → SameButLabels f g → Ends f further o → Ends g further o
 outcome-label-blind {f} {g} s h = outcome-alike (look-label-blind f g s) h
+
+-- Of rows that are numbered from 10, those before 10 ask nothing.
+pub clear-10 : (further : List Ask) → Clear (from10 further) 10
+clear-10 further =
+    let still : (x : ℕ) → ⊥ → ⊥ = λ x p. p in
+    clear-more 9 still
+    (clear-more 8 still
+    (clear-more 7 still
+    (clear-more 6 still (clear-more 5 still (clear-more 4 still (clear-more 3 still (clear-more 2 still (clear-more 1 still (clear-more 0 still clear-none)))))))))

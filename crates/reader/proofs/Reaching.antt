@@ -18,7 +18,7 @@ use Rattle.net.specs.Plan.{Plan, Joined, source, along, against, Limited}
 use Rattle.net.specs.Ends.{pick}
 use Rattle.net.specs.Graph.{netOf, startOf}
 use Rattle.net.proofs.Shapes.{limited-proper}
-use Rattle.reader.specs.Rows.{Alive}
+use Rattle.file.specs.Rows.{Alive}
 use Rattle.reader.proofs.Ways.{Way, one, more, way?}
 
 -- Row 8: an edge is two hops, there and back.

@@ -11,16 +11,17 @@ use Rattle.marked.proofs.Decide.{le?, lt?, given?}
 use Rattle.net.specs.Plan.{Plan, Limited}
 use Rattle.net.specs.Ends.{pick}
 use Rattle.net.specs.Graph.{netOf}
-use Rattle.reader.specs.File.{operationsOf, edgesOf, planOf}
-use Rattle.reader.specs.Refusals.{row, Kept}
-use Rattle.reader.specs.Rows.{Sized, Signed, Counted, Laid, Framed, Transition, Alive, table}
-use Rattle.reader.specs.Reply.{Filled, Shows, Judged, Beside, LookReply}
+use Rattle.file.specs.File.{operationsOf, edgesOf, planOf}
+use Rattle.file.specs.Refusals.{row, Kept}
+use Rattle.file.specs.Rows.{Sized, Signed, Counted, Laid, Framed, Transition, Alive, table}
+use Rattle.tables.specs.Filled.{Filled}
+use Rattle.reader.specs.Reply.{Shows, Judged, Beside, LookReply}
 use Rattle.reader.specs.declared.graph.Graph.{Graph}
 use Rattle.reader.specs.declared.graph.Look.{Look}
 use Rattle.reader.specs.declared.graph.Verdict.{Verdict}
 use Rattle.reader.specs.declared.graph.Verdict.the-variants.{Accepted, Refused}
-use Rattle.reader.proofs.Clear.{Clear, clear-more, given, sound}
-use Rattle.reader.proofs.Order.{framed-clear, sound-framed, refused-1, refused-2, refused-3, refused-4}
+use Rattle.file.proofs.Clear.{Clear, clear-more, given, sound}
+use Rattle.file.proofs.Order.{framed-clear, sound-framed, refused-1, refused-2, refused-3, refused-4}
 use Rattle.reader.proofs.Determined.{look-determined}
 use Rattle.reader.proofs.Deciding.{within?, sized?, signed?, counted?, laid?, timely?, allowed?, linked?, Searched, searched}
 use Rattle.reader.proofs.Reaching.{joined?, alive?}

@@ -3,8 +3,8 @@ use Prim.Native.Nat.{ℕ}
 use Rattle.marked.specs.Circuits.{Live}
 use Rattle.net.specs.Plan.{Joined, Limited, Marked}
 use Rattle.net.specs.Graph.{netOf, startOf}
-use Rattle.reader.specs.Limits.{OperationCount, EdgeCount}
-use Rattle.reader.specs.Rows.{Operation, Node, Timely, Linked}
+use Rattle.file.specs.Limits.{OperationCount, EdgeCount}
+use Rattle.file.specs.Rows.{Operation, Node, Timely, Linked}
 use Rattle.reader.specs.Reply.{shown}
 use Rattle.reader.specs.declared.graph.Graph.{Graph}
 

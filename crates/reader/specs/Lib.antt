@@ -1,9 +1,4 @@
-pub mod Limits
-pub mod File
-pub mod Refusals
-pub mod Rows
 pub mod Reply
 pub mod Accepted
 pub mod Outcome
-pub mod Labels
 pub mod Work

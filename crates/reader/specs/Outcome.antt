@@ -2,7 +2,7 @@
 use Prim.Native.Nat.{ℕ}
 use mathlib.Core.Path.{_≡_}
 use mathlib.Core.List.{List, _∷_}
-use Rattle.reader.specs.Refusals.{Ask, Given, Sound, nothing}
+use Rattle.file.specs.Refusals.{Ask, Given, Sound, nothing}
 use Rattle.reader.specs.Reply.{LookReply}
 use Rattle.reader.specs.declared.graph.Graph.{Graph}
 use Rattle.reader.specs.declared.graph.Look.{Look}

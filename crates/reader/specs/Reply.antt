@@ -1,23 +1,16 @@
 -- What look replies: a verdict, and beside it the graph.
-use Prim.Native.Nat.{ℕ, _≤_, _<_, _+_}
+use Prim.Native.Nat.{ℕ, _+_}
 use mathlib.Core.Path.{_≡_}
 use mathlib.Core.List.{List}
-use lib.ListN.{length}
-use Rattle.marked.specs.Net.{at}
 use Rattle.net.specs.Plan.{Plan, rows}
-use Rattle.reader.specs.File.{operationsOf, edgesOf, planOf}
-use Rattle.reader.specs.Refusals.{Given, Sound}
-use Rattle.reader.specs.Rows.{table}
+use Rattle.file.specs.File.{operationsOf, edgesOf, planOf}
+use Rattle.file.specs.Refusals.{Given, Sound}
+use Rattle.file.specs.Rows.{table}
+use Rattle.tables.specs.Filled.{Filled}
 use Rattle.reader.specs.declared.graph.Graph.{Graph}
 use Rattle.reader.specs.declared.graph.Look.{Look}
 use Rattle.reader.specs.declared.graph.Verdict.{Verdict}
 use Rattle.reader.specs.declared.graph.Verdict.the-variants.{Accepted, Refused}
-
--- xs has room entries: the first n are the values of h, and the others are 0.
-pub record Filled (n room : ℕ) (h : ℕ → ℕ) (xs : List ℕ) : Type 0 where
-  pub long : length xs ≡ room
-  pub used : (i : ℕ) → i < n → at xs i ≡ h i
-  pub unused : (i : ℕ) → n ≤ i → at xs i ≡ 0
 
 -- g shows the first n operations and the first e edges of the plan, and nothing else.
 pub record Shows (p : Plan) (n e : ℕ) (g : Graph) : Type 0 where

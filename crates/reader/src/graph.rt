@@ -1,9 +1,9 @@
 // A graph as the reader hands it out, its limits, and how it is made from the bytes of a file.
-use crate::frame::framed;
-use crate::frame::numbers;
 use crate::judge::judge;
 use crate::read::blank;
 use crate::read::read;
+use file::frame::framed;
+use file::frame::numbers;
 ghost use Rattle.reader.specs.Reply.{LookReply};
 
 // A graph as its file has it; unused entries are 0.
@@ -31,19 +31,6 @@ impl Graph {
     pub const OPERATIONS: usize = net::OPERATIONS;
 
     pub const EDGES: usize = net::EDGES;
-
-    // The source, the operations and the sink.
-    pub const NODES: usize = Graph::OPERATIONS + 2;
-
-    pub const TIME: u32 = 1_000_000;
-
-    // The shortest file is a trailer alone, and too short for a table.
-    pub const SHORTEST: usize = 16;
-
-    pub const LENGTH: usize = 2048;
-
-    // The last bytes of a file.
-    pub const MAGIC: [u8; 4] = *b"AMG1";
 
     pub fn from_file(file: &[u8]) -> Look
         ensures { λ r. ⌜ LookReply (now (file .entry)) r ⌝ }

@@ -1,16 +1,16 @@
 // The verdict on a file whose frame is right: rows 5 to 9, in order. Rows 5 and 6 read the tables, rows 7 to 9 the graph.
-use crate::dead::first_dead;
-use crate::frame::Trailer;
+use crate::alive::first_dead;
 use crate::graph::Graph;
 use crate::graph::Verdict;
-use crate::joined::first_apart;
-use crate::linked::first_bare;
-use crate::tables::first_late;
-use crate::tables::first_wrong;
+use file::frame::Trailer;
+use links::joined::first_apart;
+use links::linked::first_bare;
 use net::Found;
-ghost use Rattle.reader.specs.File.{operationsOf, edgesOf, planOf};
+use tables::edges::first_wrong;
+use tables::operations::first_late;
+ghost use Rattle.file.specs.File.{operationsOf, edgesOf, planOf};
 ghost use Rattle.reader.specs.Reply.{Shows, Judged};
-ghost use Rattle.reader.specs.Work.{Opened};
+ghost use Rattle.file.specs.Work.{Opened};
 
 pub fn judge(file: &[u8], t: Trailer, g: Graph) -> Verdict
     requires { ⌜ Opened (now file) t ⌝ }

@@ -1,12 +1,8 @@
 // The file reader: the one place where the bytes of a file become a graph.
-mod dead;
-mod frame;
+mod alive;
 pub mod graph;
-mod joined;
 mod judge;
-mod linked;
 mod read;
-mod tables;
 
 use graph::Graph;
 use graph::Look;

@@ -1,43 +1,12 @@
 // The graph of a file whose frame is right, and the graph of a file that is refused.
-use crate::frame::Trailer;
 use crate::graph::Graph;
-use crate::tables::edge_byte;
-use crate::tables::time;
-ghost use Prim.Native.Nat.{_+_, _<_};
+use file::frame::Trailer;
+use tables::edges::column;
+use tables::operations::times;
 ghost use Rattle.net.specs.Plan.{Plan};
-ghost use Rattle.reader.specs.File.{operationsOf, edgesOf, timeIn, edgeByte, planOf};
-ghost use Rattle.reader.specs.Reply.{Filled, Shows};
-ghost use Rattle.reader.specs.Work.{Opened};
-
-fn times(file: &[u8], t: Trailer) -> [u32; Graph::OPERATIONS]
-    requires { ⌜ Opened (now file) t ⌝ }
-    ensures { λ r. ⌜ Filled (operationsOf (now (file .entry))) 40 (λ i. timeIn (now (file .entry)) (i + 1)) r ⌝ }
-{
-    let n = t.operations;
-    let mut xs = [0u32; Graph::OPERATIONS];
-    let mut i = 0;
-    while i < n {
-        xs[i] = time(file, t, i + 1);
-        i += 1;
-    }
-    xs
-}
-
-// Byte k of every edge.
-fn column(file: &[u8], t: Trailer, k: usize) -> [u8; Graph::EDGES]
-    requires { ⌜ Opened (now file) t ⌝ }
-    requires { ⌜ k < 4 ⌝ }
-    ensures { λ r. ⌜ Filled (edgesOf (now (file .entry))) 128 (λ e. edgeByte (now (file .entry)) e k) r ⌝ }
-{
-    let n = t.edges;
-    let mut xs = [0u8; Graph::EDGES];
-    let mut e = 0;
-    while e < n {
-        xs[e] = edge_byte(file, t, e, k);
-        e += 1;
-    }
-    xs
-}
+ghost use Rattle.file.specs.File.{operationsOf, edgesOf, planOf};
+ghost use Rattle.reader.specs.Reply.{Shows};
+ghost use Rattle.file.specs.Work.{Opened};
 
 pub fn read(file: &[u8], t: Trailer) -> Graph
     requires { ⌜ Opened (now file) t ⌝ }

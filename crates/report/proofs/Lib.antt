@@ -1,7 +1,5 @@
-pub mod FitLaws
 pub mod Waiting
 pub mod Small
 pub mod Refusals
 pub mod Answers
 pub mod Theorems
-pub mod Example

@@ -1,10 +1,10 @@
 -- Look refuses with a number from 1 to 9 and a low place, so the line of a refusal is short.
 use Prim.Native.Nat.{ℕ, zero, suc, _<_}
-use mathlib.Core.Path.{_≡_, refl}
+use mathlib.Core.Path.{refl}
 use mathlib.Core.List.{List}
 use native.Mathlib.Omega.{arith}
-use Rattle.reader.specs.Refusals.{Given, row}
-use Rattle.reader.specs.Rows.{Counted, table}
+use Rattle.file.specs.Refusals.{Given, row}
+use Rattle.file.specs.Rows.{Counted, table}
 
 module _ (f : List ℕ) where
   -- The places of row k, where the counts are within their limits.

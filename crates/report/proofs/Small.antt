@@ -1,20 +1,19 @@
 -- How large the numbers of an accepted graph's report can be, so that its text fits 4,096 bytes.
-use mathlib.Core.Path.{_≡_}
-use mathlib.Core.List.{List, [], _∷_}
-use Prim.Native.Nat.{ℕ, zero, suc, _*_, _+_, _<_, _≤_}
+use mathlib.Core.List.{List}
+use Prim.Native.Nat.{ℕ, _*_, _<_, _≤_}
 use native.Mathlib.Nat.{le-of-mul-le-mul-right, mul-le-mul-right}
 use native.Mathlib.Omega.{arith}
 use lib.ListN.{length}
-use Rattle.marked.specs.Lists.{All}
-use Rattle.marked.specs.Sums.{sum, upto}
-use Rattle.marked.specs.Net.{Net, Proper, Walk, at, go, lasts, stop, tokens}
+use Rattle.marked.specs.Net.{Net, Proper, Walk, lasts, tokens}
 use Rattle.marked.specs.Circuits.{Circuit, froms}
 use Rattle.marked.specs.Distance.{Least}
 use Rattle.marked.specs.Bounds.{Largest, Reduced}
 use Rattle.marked.specs.Wait.{WaitSum}
+use Rattle.marked.proofs.Entries.{all-at}
 use Rattle.marked.proofs.Pigeonhole.{pigeonhole}
 use Rattle.marked.proofs.Shorten.{shorten}
-use Rattle.marked.proofs.Sizes.{circuit-length, walk-places}
+use Rattle.marked.proofs.Sizes.{circuit-length, walk-most, walk-places}
+use Rattle.marked.proofs.Tallies.{upto-most}
 use Rattle.marked.proofs.Wait.{others-all}
 use Rattle.marked.proofs.Walks.{froms-in, length-froms}
 use Rattle.net.specs.Graph.{netOf, startOf}
@@ -24,30 +23,12 @@ use Rattle.reader.specs.Reply.{shown}
 use Rattle.reader.specs.declared.graph.Graph.{Graph}
 use Rattle.paths.proofs.Bounded.{effort-most}
 use Rattle.paths.proofs.Order.{tbio-most, tt-most}
-use Rattle.tbo.proofs.Rows.{sized-few, sized-short}
+use Rattle.fraction.proofs.Rows.{sized-few, sized-short}
 use Rattle.bounds.proofs.Granted.{accepted-passable, accepted-ready}
-use Rattle.report.specs.Limits.{Limited}
-use Rattle.report.specs.Text.{reportText}
+use Rattle.lines.specs.Limits.{Limited}
+use Rattle.lines.specs.Text.{reportText}
 use Rattle.report.specs.Reply.{Numbers}
-use Rattle.report.proofs.FitLaws.{report-fits}
-
--- What each entry has, the i-th has.
-all-at : (P : ℕ → Type 0) (xs : List ℕ) (i : ℕ) → All P xs → i < length xs → P (at xs i)
-all-at P [] i h l = absurd (omega arith)
-all-at P (x ∷ xs) zero h l = h .0
-all-at P (x ∷ xs) (suc i) h l = all-at P xs i (h .1) (omega arith)
-
--- n numbers of at most k each.
-upto-most : (x : ℕ → ℕ) (k n : ℕ) → ((u : ℕ) → u < n → x u ≤ k) → upto x n ≤ n * k
-unfolding upto
-upto-most x k zero h = omega arith
-upto-most x k (suc n) h = omega (arith, upto-most x k n (λ u l. h u (omega arith)), h n (omega arith))
-
--- A walk along places of at most k each.
-walk-most : {g : Net} {a b : ℕ} {ps : List ℕ} (f : ℕ → ℕ) (k : ℕ) → ((p : ℕ) → p < g .places → f p ≤ k) → Walk g a b ps → sum f ps ≤ length ps * k
-unfolding sum
-walk-most f k h stop = omega arith
-walk-most f k h (go p l w) = omega (arith, h p l, walk-most f k h w)
+use Rattle.lines.proofs.FitLaws.{report-fits}
 
 module _ {g : Graph} (ok : Accepted g) where
   abbrev net : Net

@@ -6,23 +6,11 @@ use native.Mathlib.Omega.{arith}
 use borrow.Author.Count.{below-more}
 use lib.ListN.{length, set}
 use lib.Seq.{getD-set-other, getD-set-same}
-use Rattle.marked.specs.Net.{Net, at}
-use Rattle.marked.specs.Firing.{Same}
-use Rattle.marked.specs.Distance.{Least}
-use Rattle.marked.specs.Wait.{WaitSum}
+use Rattle.marked.specs.Net.{at}
+use Rattle.marked.proofs.Demand.{wait-sum-same}
 use Rattle.net.specs.Start.{Started}
-use Rattle.reader.proofs.Alike.{tokens-same}
 use Rattle.waiting.specs.Work.{Summed}
 use Rattle.report.specs.Work.{Waited}
-
--- Markings that agree on the places have the same fewest tokens,
-least-same : {g : Net} {m k : ℕ → ℕ} {a b d : ℕ} → Same g m k → Least g m a b d → Least g k a b d
-least-same s l =
-    record { way = l .way; walk = l .walk; has = omega (arith, l .has, tokens-same s (l .walk)); least = λ ps w. omega (arith, l .least ps w, tokens-same s w) }
-
--- and so the same waits.
-wait-sum-same : {g : Net} {m k : ℕ → ℕ} {t w : ℕ} → Same g m k → WaitSum g m t w → WaitSum g k t w
-wait-sum-same s x = record { fewest = x .fewest; each = λ u l. least-same s (x .each u l); adds = x .adds }
 
 -- The first k entries are the waits of their transitions.
 pub record Summing (n e : ℕ) (from to marking : List ℕ) (k : ℕ) (waits : List ℕ) : Type 0 where

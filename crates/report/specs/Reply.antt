@@ -6,14 +6,14 @@ use Rattle.marked.specs.Bounds.{Largest, Reduced}
 use Rattle.marked.specs.Wait.{WaitSum}
 use Rattle.net.specs.Plan.{Plan}
 use Rattle.net.specs.Graph.{netOf, startOf}
-use Rattle.reader.specs.Refusals.{Ask}
+use Rattle.file.specs.Refusals.{Ask}
 use Rattle.reader.specs.Reply.{shown}
 use Rattle.reader.specs.Outcome.{Ends, Outcome, accepted, refusal}
 use Rattle.reader.specs.declared.graph.Graph.{Graph}
 use Rattle.paths.specs.Longest.{TBIO, TCE, TT}
 use Rattle.circuit.specs.Chosen.{Chosen}
 use Rattle.pen.specs.Lines.{Put}
-use Rattle.report.specs.Text.{refusedLine, reportText}
+use Rattle.lines.specs.Text.{refusedLine, reportText}
 use Rattle.report.specs.declared.reply.Report.{Report}
 use Rattle.report.specs.declared.reply.Report.the-variants.{Refused, Written}
 
@@ -28,22 +28,24 @@ pub record Numbers (g : Plan) (a b x y z : ℕ) (ring : List ℕ) (wait : ℕ �
   pub circuit : Chosen (netOf g) (startOf g) a b ring
   pub waits : (t : ℕ) → t < netOf g .transitions → WaitSum (netOf g) (startOf g) t (wait t)
 
--- What each reply says, and the buffer before and after it. The text stands at the buffer's beginning, all else is as it was, and len is the text's length:
--- the line with a refusal's number and place, or the report of look's graph.
-pub data Says (before : List ℕ) : Outcome → Report → List ℕ → Type 0 where
-  refused : {k x len : ℕ} {after : List ℕ} → Put before 0 (refusedLine k x) after len → Says before (refusal k x) (Refused k x len) after
+-- What each reply says, and the buffer before and after it. 14 comes first, whatever look says: the buffer has under 4,096 bytes, and nothing is written.
+-- Else the text stands at the buffer's beginning, all else is as it was, and len is the text's length: the line with a refusal's number and place, or the report of look's graph.
+pub data Replies (before : List ℕ) : Outcome → Report → List ℕ → Type 0 where
+  short : {o : Outcome} → length before < 4096 → Replies before o (Refused 14 0 0) before
+  refused : {k x len : ℕ} {after : List ℕ} → 4096 ≤ length before → Put before 0 (refusedLine k x) after len → Replies before (refusal k x) (Refused k x len) after
   written :
-      {g : Graph} {a b x y z len : ℕ} {ring after : List ℕ} {wait : ℕ → ℕ} → Numbers (shown g) a b x y z ring wait
-      → Put before 0 (reportText (g .operations) (g .edges) a b x y z ring wait) after len → Says before (accepted g) (Written len) after
+      {g : Graph} {a b x y z len : ℕ} {ring after : List ℕ} {wait : ℕ → ℕ} → 4096 ≤ length before → Numbers (shown g) a b x y z ring wait
+      → Put before 0 (reportText (g .operations) (g .edges) a b x y z ring wait) after len → Replies before (accepted g) (Written len) after
 
 -- Beyond look's own rows, report asks nothing of a graph.
 abbrev pub reportRows : Graph → List Ask
 reportRows g = []
 
--- The reply to a file f and a buffer: 14 first, where the buffer has under 4,096 bytes, and then nothing is written; else as look ends.
-pub data ReportReply (f before : List ℕ) : Report → List ℕ → Type 0 where
-  short : length before < 4096 → ReportReply f before (Refused 14 0 0) before
-  roomy : {o : Outcome} {r : Report} {after : List ℕ} → 4096 ≤ length before → Ends f reportRows o → Says before o r after → ReportReply f before r after
+-- The reply to a file f and a buffer: 14 first, then look's 1 to 9.
+pub record ReportReply (f before : List ℕ) (r : Report) (after : List ℕ) : Type 0 where
+  pub outcome : Outcome
+  pub ends : Ends f reportRows outcome
+  pub replies : Replies before outcome r after
 
 -- How many bytes a reply has written.
 abbrev pub lengthOf : Report → ℕ

@@ -1,12 +1,17 @@
-// The report of a graph that look has accepted: its waits and its bounds, then the text.
+// The reply for a graph that look has accepted, where the report has room: its waits, its bounds and the text.
 use crate::reply::Report;
-use crate::text::write_report;
 use crate::waits::start_waits;
-use bounds::reply::Bounds;
+use bounds::measure::measure;
+use lines::write_report;
 use net::EDGES;
 use net::OPERATIONS;
 use net::TRANSITIONS;
-ghost use Rattle.report.specs.Work.{Answered, Asked};
+ghost use Prim.Native.Nat.{_≤_};
+ghost use lib.ListN.{length};
+ghost use Rattle.reader.specs.Accepted.{Accepted};
+ghost use Rattle.reader.specs.Outcome.{accepted};
+ghost use Rattle.marking.specs.Work.{graphOf};
+ghost use Rattle.report.specs.Reply.{Replies};
 
 pub fn answer<'a>(
     n: usize,
@@ -17,39 +22,26 @@ pub fn answer<'a>(
     mark: &'a [u8; EDGES],
     buffer: &mut [u8],
 ) -> Report
-    requires { ⌜ Asked n e (now times) (now from) (now to) (now mark) (now buffer) ⌝ }
-    ensures { λ r. ⌜ Answered n e (now (times .entry)) (now (from .entry)) (now (to .entry)) (now (mark .entry)) (now (buffer .entry)) r (now (buffer .exit)) ⌝ }
+    requires { ⌜ Accepted (graphOf n e (now times) (now from) (now to) (now mark)) ⌝ }
+    requires { ⌜ 4096 ≤ length (now buffer) ⌝ }
+    ensures { λ r. ⌜ Replies (now (buffer .entry)) (accepted (graphOf n e (now (times .entry)) (now (from .entry)) (now (to .entry)) (now (mark .entry)))) r (now (buffer .exit)) ⌝ }
 {
     let mut waits = [0u32; TRANSITIONS];
     start_waits(n, e, from, to, mark, &mut waits);
     let mut ring = [0u16; TRANSITIONS];
-    let found = bounds::answer::answer(n, e, times, from, to, mark, &mut ring);
-    if let Bounds::Bounded {
-        numerator,
-        denominator,
-        tbio,
-        tt,
-        tce,
-        length: places,
-    } = found {
-        let length = write_report(
-            buffer,
-            n,
-            e,
-            numerator,
-            denominator,
-            tbio,
-            tt,
-            tce,
-            &ring[..places],
-            &waits,
-        );
-        return Report::Written { length };
-    }
-    // Never: no circuit has more places than the ring has room for.
-    Report::Refused {
-        number: 14,
-        place: 0,
-        length: 0,
-    }
+    let found = measure(n, e, times, from, to, mark, &mut ring);
+    let places = found.length;
+    let length = write_report(
+        buffer,
+        n,
+        e,
+        found.numerator,
+        found.denominator,
+        found.tbio,
+        found.tt,
+        found.tce,
+        &ring[..places],
+        &waits,
+    );
+    Report::Written { length }
 }

@@ -1,15 +1,13 @@
 // `report`: the text of a file's report, in a lent buffer.
 mod answer;
-pub mod lines;
 pub mod reply;
-pub mod text;
 mod waits;
 
 use answer::answer;
+use lines::write_refused;
 use reader::graph::Verdict;
 use reader::look;
 use reply::Report;
-use text::write_refused;
 ghost use Rattle.report.specs.Reply.{ReportReply};
 
 // No report is longer than this.

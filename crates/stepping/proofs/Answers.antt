@@ -9,15 +9,16 @@ use Rattle.reader.specs.Outcome.{passed, refused as stopped, unread}
 use Rattle.reader.specs.declared.graph.Look.{Look}
 use Rattle.reader.specs.declared.graph.Verdict.the-variants.{Accepted as Passed, Refused as Stopped}
 use Rattle.reader.proofs.Accepting.{accepted}
-use Rattle.reader.proofs.Clear.{clear-10, clear-more, given, lowest-whole, sound}
+use Rattle.reader.proofs.Outcomes.{clear-10}
+use Rattle.file.proofs.Clear.{clear-more, given, lowest-whole, sound}
 use Rattle.marking.specs.Work.{Answered}
 use Rattle.firing.specs.declared.step.Answer.{Answer}
 use Rattle.firing.specs.declared.step.Answer.the-variants.{Refused}
-use Rattle.firing.specs.Few.{Few}
+use Rattle.firing.specs.Work.{Few}
 use Rattle.firing.proofs.Fews.{few-single}
 use Rattle.stepping.specs.declared.reply.Start.{Start}
 use Rattle.stepping.specs.declared.reply.Start.the-variants.{Refused as StartRefused}
-use Rattle.stepping.specs.declared.reply.Ran.{Ran}
+use Rattle.running.specs.declared.repeat.Ran.{Ran}
 use Rattle.stepping.specs.Replies.{RunReply, StartReply, StepReply}
 use Rattle.stepping.specs.Replies.StartReply.{refused as start-refused, started}
 use Rattle.stepping.specs.Replies.StepReply.{refused as step-refused, stepped}

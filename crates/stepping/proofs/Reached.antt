@@ -9,13 +9,14 @@ use Rattle.marked.specs.Firing.Fires.{still, then}
 use Rattle.marked.proofs.Fired.{fires-join}
 use Rattle.net.specs.Graph.{netOf}
 use Rattle.net.proofs.Safe.{safe}
-use Rattle.reader.specs.Refusals.{Ask}
+use Rattle.file.specs.Refusals.{Ask}
 use Rattle.reader.specs.Reply.{LookReply, shown}
 use Rattle.reader.specs.Outcome.{Ends, accepted, passed}
 use Rattle.reader.specs.declared.graph.Graph.{Graph}
 use Rattle.reader.specs.declared.graph.Look.{Look}
 use Rattle.reader.proofs.Accepting.{accepted as look-accepted}
-use Rattle.reader.proofs.Clear.{clear-10, clear-more, sound}
+use Rattle.reader.proofs.Outcomes.{clear-10}
+use Rattle.file.proofs.Clear.{clear-more, sound}
 use Rattle.reader.proofs.Determined.{look-determined}
 use Rattle.reader.proofs.Outcomes.{outcome-determined}
 use Rattle.marking.specs.Rows.{Fits, Reached, runRows}
@@ -25,14 +26,14 @@ use Rattle.firing.specs.Step.{Steps}
 use Rattle.firing.specs.Step.Steps.{above, fires, waits}
 use Rattle.firing.proofs.Steps.{steps-long}
 use Rattle.stepping.specs.declared.reply.Start.the-variants.{Started}
-use Rattle.stepping.specs.declared.reply.Ran.{Ran}
-use Rattle.stepping.specs.Run.{Runs}
-use Rattle.stepping.specs.Run.Runs.{ends, goes, stops}
+use Rattle.running.specs.declared.repeat.Ran.{Ran}
+use Rattle.running.specs.Run.{Runs}
+use Rattle.running.specs.Run.Runs.{ends, goes, stops}
 use Rattle.stepping.specs.Replies.{RunReply, StartReply, StepReply}
 use Rattle.stepping.specs.Replies.StartReply.{started}
 use Rattle.stepping.specs.Replies.StepReply.{refused as step-refused, stepped}
 use Rattle.stepping.specs.Replies.RunReply.{ran, refused as run-refused}
-use Rattle.stepping.proofs.Firings.{runs-fires}
+use Rattle.running.proofs.Firings.{runs-fires}
 use Rattle.stepping.proofs.Replies.{never, same-graph}
 
 -- The graph of an accepted outcome is look's.

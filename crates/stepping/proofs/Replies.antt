@@ -6,24 +6,22 @@ use native.Mathlib.Omega.{arith}
 use lib.Seq.{ext-getD}
 use Rattle.net.specs.Graph.{netOf}
 use Rattle.reader.specs.Reply.{shown}
-use Rattle.reader.specs.Labels.{SameButLabels}
+use Rattle.file.specs.Labels.{SameButLabels}
 use Rattle.reader.specs.Outcome.{accepted, refusal}
 use Rattle.reader.specs.declared.graph.Graph.{Graph}
 use Rattle.reader.proofs.Outcomes.{outcome-determined, outcome-label-blind}
 use Rattle.marking.specs.Rows.{runRows, startRows}
 use Rattle.firing.specs.declared.step.Answer.{Answer}
-use Rattle.firing.specs.declared.step.Answer.the-variants.{Refused}
 use Rattle.firing.specs.Step.{Steps}
 use Rattle.firing.proofs.Steps.{steps-determined}
 use Rattle.stepping.specs.declared.reply.Start.{Start}
-use Rattle.stepping.specs.declared.reply.Start.the-variants.{Refused as StartRefused, Started}
-use Rattle.stepping.specs.declared.reply.Ran.{Ran}
-use Rattle.stepping.specs.Run.{Runs}
+use Rattle.running.specs.declared.repeat.Ran.{Ran}
+use Rattle.running.specs.Run.{Runs}
 use Rattle.stepping.specs.Replies.{AtStart, RunReply, StartReply, StepReply}
 use Rattle.stepping.specs.Replies.StartReply.{refused as start-refused, started}
 use Rattle.stepping.specs.Replies.StepReply.{refused as step-refused, stepped}
 use Rattle.stepping.specs.Replies.RunReply.{ran, refused as run-refused}
-use Rattle.stepping.proofs.Determined.{runs-determined}
+use Rattle.running.proofs.Determined.{runs-determined}
 
 -- No file is accepted and refused.
 pub never : {A : Type 0} {g : Graph} {k x : ℕ} → accepted g ≡ refusal k x → A

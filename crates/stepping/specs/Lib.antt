@@ -1,4 +1,3 @@
 pub mod Replies
 pub mod Numbers
-pub mod Run
 pub mod Work

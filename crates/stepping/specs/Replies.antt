@@ -13,8 +13,8 @@ use Rattle.firing.specs.declared.step.Answer.the-variants.{Refused}
 use Rattle.firing.specs.Step.{Steps}
 use Rattle.stepping.specs.declared.reply.Start.{Start}
 use Rattle.stepping.specs.declared.reply.Start.the-variants.{Refused as StartRefused, Started}
-use Rattle.stepping.specs.declared.reply.Ran.{Ran}
-use Rattle.stepping.specs.Run.{Runs}
+use Rattle.running.specs.declared.repeat.Ran.{Ran}
+use Rattle.running.specs.Run.{Runs}
 
 -- The bytes z are the starting marking of look's graph: one byte a place, its tokens at the start.
 pub record AtStart (g : Graph) (z : List ℕ) : Type 0 where

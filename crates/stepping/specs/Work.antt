@@ -7,11 +7,11 @@ use Rattle.net.specs.Start.{Started as Written}
 use Rattle.marking.specs.Work.{Answered}
 use Rattle.firing.specs.declared.step.Answer.{Answer}
 use Rattle.firing.specs.declared.step.Answer.the-variants.{Refused}
-use Rattle.firing.specs.Step.{Stepped}
+use Rattle.firing.specs.Work.{Stepped}
 use Rattle.stepping.specs.declared.reply.Start.{Start}
 use Rattle.stepping.specs.declared.reply.Start.the-variants.{Refused as StartRefused, Started}
-use Rattle.stepping.specs.declared.reply.Ran.{Ran}
-use Rattle.stepping.specs.Run.{RunTaken}
+use Rattle.running.specs.declared.repeat.Ran.{Ran}
+use Rattle.running.specs.Work.{RunTaken}
 
 -- The buffer has one byte a place and is filled, or 10 is given.
 pub data GraphStarted (n e : ℕ) (mark m : List ℕ) : Start → List ℕ → Type 0 where

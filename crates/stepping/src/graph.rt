@@ -1,12 +1,12 @@
 // The three calls for a graph that look has accepted, over its rows: 10 and 11 first, then the work.
-use crate::repeat::run_rows;
-use crate::reply::Ran;
 use crate::reply::Start;
 use firing::step::Answer;
 use firing::step::step_rows;
 use marking::accepts::accepts;
 use net::EDGES;
 use net::start::start_marking;
+use running::repeat::Ran;
+use running::repeat::run_rows;
 ghost use Rattle.net.specs.Valid.{Single, Valid};
 ghost use Rattle.stepping.specs.Work.{GraphRun, GraphStarted, GraphStepped};
 

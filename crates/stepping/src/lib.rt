@@ -1,7 +1,5 @@
 // `start`, `step` and `run`: the calls that write a marking, one byte a place.
-pub mod entry;
 mod graph;
-pub mod repeat;
 pub mod reply;
 
 use firing::step::Answer;
@@ -10,8 +8,8 @@ use graph::start_graph;
 use graph::step_graph;
 use reader::graph::Verdict;
 use reader::look;
-use reply::Ran;
 use reply::Start;
+use running::repeat::Ran;
 ghost use Rattle.stepping.specs.Replies.{RunReply, StartReply, StepReply};
 
 // Fills the marking with the start of a file's graph, or gives the lowest of refusals 1 to 10 that applies and writes nothing.

@@ -1,4 +1,4 @@
-// What `start` and `run` reply; `step` replies an `Answer`. And the number and the place that document 01 has for each.
+// What `start` replies; `step` replies an `Answer`, `run` a `Ran`. And the number and the place that document 01 has for each.
 use firing::step::Answer;
 ghost use mathlib.Core.Path.{_≡_};
 ghost use Rattle.stepping.specs.Numbers.{startNumber, startPlace, stepNumber, stepPlace};
@@ -6,12 +6,6 @@ ghost use Rattle.stepping.specs.Numbers.{startNumber, startPlace, stepNu
 pub enum Start {
     Started,
     Refused { number: u8, place: u16 },
-}
-
-// How many entries fired, and the first refusal; `Fired` where there was none.
-pub struct Ran {
-    pub fired: usize,
-    pub answer: Answer,
 }
 
 pub fn start_number(a: Start) -> u8

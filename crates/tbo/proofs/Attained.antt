@@ -17,7 +17,8 @@ use Rattle.marked.proofs.Loops.{Looped, loop}
 use Rattle.marked.proofs.Fraction.{ratio-bound, ratio-step}
 use Rattle.net.specs.Plan.{rows, timeIn}
 use Rattle.net.specs.Graph.{netOf, startOf}
-use Rattle.tbo.specs.Rows.{Pair, Sized}
+use Rattle.fraction.specs.Rows.{Pair, Sized}
+use Rattle.fraction.proofs.Rows.{ring-of, sized-few, sized-short}
 use Rattle.tbo.specs.Chains.{Tour}
 use Rattle.tbo.specs.Bounded.{Bounded}
 use Rattle.tbo.specs.Judged.{Judged, Verdict}
@@ -25,7 +26,6 @@ use Rattle.tbo.specs.Judged.Verdict.{beaten, holds}
 use Rattle.tbo.specs.declared.improve.Found.{Found}
 use Rattle.tbo.specs.declared.improve.Found.the-variants.{Better, Certified}
 use Rattle.tbo.proofs.Chains.{tour-holds, tour-lasts}
-use Rattle.tbo.proofs.Rows.{ring-of, sized-few, sized-short}
 
 -- A closed walk that comes to no transition twice has no place.
 closed-none : {g : Net} {a b : ℕ} {ps : List ℕ} → Walk g a b ps → a ≡ b → Distinct (b ∷ froms g ps) → length ps ≡ 0

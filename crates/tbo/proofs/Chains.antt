@@ -12,7 +12,7 @@ use Rattle.marked.specs.Sums.{sum}
 use Rattle.marked.specs.Net.{Net, Proper, Walk, go, lasts, stop, tokens}
 use Rattle.marked.proofs.Pigeonhole.{pigeonhole}
 use Rattle.marked.proofs.Find.{above}
-use Rattle.tbo.specs.Raises.{Noted, Passed}
+use Rattle.sweep.specs.Raises.{Noted, Passed}
 use Rattle.tbo.specs.Chains.{Notes, Tour, Turns, Way, back, behind}
 use Rattle.tbo.proofs.Steadies.{Steady}
 

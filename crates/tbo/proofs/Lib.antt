@@ -1,9 +1,5 @@
 pub mod Steadies
 pub mod Chains
-pub mod Sweeping
-pub mod Rows
-pub mod Sorting
 pub mod Rounds
 pub mod Running
 pub mod Attained
-pub mod Euclid

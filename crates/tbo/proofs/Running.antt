@@ -1,17 +1,18 @@
 -- Sweeps until none raises, or until a chain comes round.
 use mathlib.Core.Path.{_≡_, ap, sym, _∙_, subst}
-use mathlib.Core.Logic.{_≢_, _⊎_, ⊎-elim}
-use Prim.Native.Nat.{_*_, _+_, _-_, _<_, _≤_, suc, ℕ}
+use mathlib.Core.Logic.{_≢_, ⊎-elim}
+use Prim.Native.Nat.{_*_, _+_, _<_, _≤_, suc, ℕ}
 use native.Mathlib.Omega.{arith}
 use Rattle.marked.specs.Net.{Net, Proper}
 use Rattle.marked.specs.Bounds.{Certifies}
 use Rattle.marked.proofs.Find.{above}
-use Rattle.tbo.specs.Items.{Every}
-use Rattle.tbo.specs.Raises.{Swept}
+use Rattle.sweep.specs.Places.{Every}
+use Rattle.sweep.specs.Raises.{Swept}
+use Rattle.sweep.proofs.Lifting.{lifts-up}
 use Rattle.tbo.specs.Chains.{Round, Tour, Turns, back}
 use Rattle.tbo.proofs.Chains.{Sweeps, back-in, comes-round, no-end, notes-of, sweeps-snoc}
 use Rattle.tbo.proofs.Chains.Sweeps.{begun}
-use Rattle.tbo.proofs.Steadies.{Steady, lifts-up, steady-start, steady-through}
+use Rattle.tbo.proofs.Steadies.{Steady, steady-start, steady-through}
 
 -- k sweeps from C have led to D and P.
 pub record Running (g : Net) (m : ℕ → ℕ) (a b : ℕ) (C D P : ℕ → ℕ) (k : ℕ) : Type 0 where
@@ -35,12 +36,15 @@ module _ {g : Net} {m : ℕ → ℕ} {a b : ℕ} {C D P E Q : ℕ → ℕ} {k y 
   rose f = ⊎-elim (λ e. absurd (f e)) (λ h. h) (s .loud)
 
   module _ (ok : Proper g) (f : y ≢ 122) {w : ℕ} (ew : w ≡ back g Q (g .transitions) y) where
+    pub lands : w < g .transitions
+    lands = omega (arith, back-in (notes-of steady-next) ok (g .transitions) y (rose f .0))
+
     pub turns : Q w ≢ 0 → Turns g Q w
     turns n =
         let c = comes-round (notes-of steady-next) ok y (rose f .0) in
         record {
           notes = notes-of steady-next;
-          within = omega (arith, back-in (notes-of steady-next) ok (g .transitions) y (rose f .0));
+          within = lands;
           noted = n;
           steps = c .0;
           some = c .1;

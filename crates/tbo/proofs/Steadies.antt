@@ -2,16 +2,16 @@
 use mathlib.Core.Path.{_≡_, refl}
 use mathlib.Core.Logic.{_⊎_, inl, inr}
 use mathlib.Core.List.{List, [], _∷_}
-use Prim.Native.Nat.{_*_, _+_, _<_, _≤_, suc, ℕ}
+use Prim.Native.Nat.{_*_, _+_, _<_, _≤_, ℕ}
 use native.Mathlib.Omega.{arith}
 use native.Mathlib.Decide.{ℕ-discrete}
-use native.Mathlib.Numerals.{unary-clauses}
 use lib.ListN.{length}
 use Rattle.marked.specs.Lists.{All}
 use Rattle.marked.specs.Sums.{sum}
 use Rattle.marked.specs.Net.{Net, Walk, go, lasts, stop, tokens}
-use Rattle.tbo.specs.Raises.{Lift, Lifts, Noted}
-use Rattle.tbo.specs.Raises.Lifts.{more, none}
+use Rattle.sweep.specs.Raises.{Lift, Lifts, Noted}
+use Rattle.sweep.specs.Raises.Lifts.{more, none}
+use Rattle.sweep.proofs.Lifting.{lift-up}
 
 -- What holds of potentials D and notes P that were raised from C and from no notes: notes name places, noted places are tight or better, and closed walks of noted places have more time per token than a / b.
 pub record Steady (g : Net) (m : ℕ → ℕ) (a b : ℕ) (C D P : ℕ → ℕ) : Type 0 where
@@ -39,13 +39,6 @@ module _ {g : Net} {m : ℕ → ℕ} {a b : ℕ} where
       never u (p ∷ ps) w l n = let e : P (g .dst p) ≡ p + 1 = n .0 in absurd (omega (arith, z (g .dst p)))
 
   module _ {D P E Q : ℕ → ℕ} {p : ℕ} (l : Lift g m a b p D P E Q) where
-    pub lift-up : (v : ℕ) → D v ≤ E v
-    lift-up v = at (ℕ-discrete v (g .dst p))
-      where
-        at : Dec (v ≡ g .dst p) → D v ≤ E v
-        at (yes e) = rw e (omega (arith, l .rise, l .new))
-        at (no f) = omega (arith, l .same v f)
-
     module _ {C : ℕ → ℕ} (s : Steady g m a b C D P) where
       -- a noted place is the new one, or was noted before
       which : (q : ℕ) → Noted g Q q → (q ≡ p) ⊎ Noted g P q
@@ -83,10 +76,10 @@ module _ {g : Net} {m : ℕ → ℕ} {a b : ℕ} where
           at (yes f) =
               let h : Q (g .dst p) ≡ q + 1 = rw f at e in
               let z : q ≡ p = omega (arith, l .note) in
-              rw (f, z) (l .inside, refl, omega (arith, l .new, lift-up (g .src p)))
+              rw (f, z) (l .inside, refl, omega (arith, l .new, lift-up l (g .src p)))
           at (no f) =
               let h : P v ≡ q + 1 = omega (arith, l .kept v f) in
-              (s .inside v q h, s .ends v q h, omega (arith, l .same v f, s .slack v q h, lift-up (g .src q)))
+              (s .inside v q h, s .ends v q h, omega (arith, l .same v f, s .slack v q h, lift-up l (g .src q)))
 
       root-on : (v : ℕ) → Q v ≡ 0 → E v ≡ C v
       root-on v e = at (ℕ-discrete v (g .dst p))
@@ -98,7 +91,7 @@ module _ {g : Net} {m : ℕ → ℕ} {a b : ℕ} where
       -- What is steady stays so.
       pub steady-on : Steady g m a b C E Q
       steady-on = record {
-        rises = λ v. omega (arith, s .rises v, lift-up v);
+        rises = λ v. omega (arith, s .rises v, lift-up l v);
         inside = λ v q e. noted-on v q e .0;
         ends = λ v q e. noted-on v q e .1;
         slack = λ v q e. noted-on v q e .2;
@@ -106,23 +99,6 @@ module _ {g : Net} {m : ℕ → ℕ} {a b : ℕ} where
         round = round-on;
       }
 
-  pub lifts-up : {D P E Q : ℕ → ℕ} {k : ℕ} → Lifts g m a b D P k E Q → (v : ℕ) → D v ≤ E v
-  lifts-up none v = omega arith
-  lifts-up (more p x l) v = omega (arith, lifts-up x v, lift-up l v)
-
   pub steady-through : {C D P E Q : ℕ → ℕ} {k : ℕ} → Lifts g m a b D P k E Q → Steady g m a b C D P → Steady g m a b C E Q
   steady-through none s = s
   steady-through (more p x l) s = steady-on l (steady-through x s)
-
-  -- How far k lifts can take the potentials.
-  pub lifts-bound : {D P E Q : ℕ → ℕ} {k : ℕ} (top step : ℕ) → ((p : ℕ) → p < g .places → b * g .time (g .src p) ≤ step) → ((v : ℕ) → D v ≤ top) → Lifts g m a b D P k E Q → (v : ℕ) → E v ≤ top + k * step
-  lifts-bound top step h t none v = omega (arith, t v)
-  lifts-bound {E = E} top step h t (more {k = k} {E = F} p x l) v = at (ℕ-discrete v (g .dst p)) (lifts-bound top step h t x)
-    where
-      at : Dec (v ≡ g .dst p) → ((u : ℕ) → F u ≤ top + k * step) → E v ≤ top + suc k * step
-      at (yes f) r = rw f (omega (arith, l .new, r (g .src p), h p (l .inside)))
-      at (no f) r = omega (arith, l .same v f, r v)
-
-  pub lifts-trans : {D P E Q F R : ℕ → ℕ} {j k : ℕ} → Lifts g m a b D P j E Q → Lifts g m a b E Q k F R → Lifts g m a b D P (j + k) F R
-  lifts-trans x none = simp unary-clauses x
-  lifts-trans x (more p y l) = simp unary-clauses (more p (lifts-trans x y) l)

@@ -2,10 +2,10 @@
 use mathlib.Core.List.{List}
 use Prim.Native.Nat.{_≤_, ℕ}
 use Rattle.marked.specs.Net.{at}
-use Rattle.marked.specs.Bounds.{Certifies, Largest, Reduced, SameRatio}
+use Rattle.marked.specs.Bounds.{Certifies, Largest}
 use Rattle.net.specs.Plan.{Plan}
 use Rattle.net.specs.Graph.{netOf, startOf}
-use Rattle.tbo.specs.Rows.{Pair}
+use Rattle.fraction.specs.Rows.{Pair}
 
 -- a / b is the largest time per token of a circuit of the computational graph, and d, one number a transition, certifies it.
 pub record Bounded (g : Plan) (a b : ℕ) (d : List ℕ) : Type 0 where
@@ -14,8 +14,3 @@ pub record Bounded (g : Plan) (a b : ℕ) (d : List ℕ) : Type 0 where
   pub positive : 1 ≤ b
   pub small : Pair a b
   pub low : (v : ℕ) → at d v ≤ 1000000000000000000
-
--- c / e is the fraction a / b in lowest terms.
-pub record InLowest (a b c e : ℕ) : Type 0 where
-  pub same : SameRatio a b c e
-  pub reduced : Reduced c e

@@ -1,15 +1,14 @@
 // A closed walk with more time per token than a / b, or the certificate that there is none.
-use crate::order::ITEMS;
 use crate::round;
-use crate::sweep;
-use crate::sweep::NONE;
 use net::EDGES;
 use net::OPERATIONS;
 use net::TRANSITIONS;
+use order::ITEMS;
+use sweep::NONE;
 ghost use Rattle.net.specs.Plan.{rows};
-ghost use Rattle.tbo.specs.Rows.{Pair, Sized};
-ghost use Rattle.tbo.specs.Items.{Ordered};
-ghost use Rattle.tbo.specs.Raises.{Level};
+ghost use Rattle.fraction.specs.Rows.{Pair, Sized};
+ghost use Rattle.order.specs.Items.{Ordered};
+ghost use Rattle.sweep.specs.Raises.{Level};
 ghost use Rattle.tbo.specs.Judged.{Judged};
 
 pub enum Found {

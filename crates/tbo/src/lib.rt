@@ -1,18 +1,14 @@
 // TBO: the largest time per token of a circuit of the computational graph, with a certificate that no circuit has more.
 pub mod improve;
-pub mod lowest;
-mod order;
 mod round;
-mod sweep;
-pub mod weigh;
-pub mod widen;
 
+use fraction::lowest::Ratio;
+use fraction::widen::wide;
 use improve::Found;
 use net::EDGES;
 use net::OPERATIONS;
 use net::TRANSITIONS;
 use order::ITEMS;
-use widen::wide;
 ghost use mathlib.Core.Path.{_≡_};
 ghost use Prim.Native.Nat.{ℕ, _<_, _≤_};
 ghost use lib.ListN.{length};
@@ -20,14 +16,8 @@ ghost use Rattle.marked.specs.Net.{at};
 ghost use Rattle.marked.specs.Circuits.{Live};
 ghost use Rattle.net.specs.Plan.{rows};
 ghost use Rattle.net.specs.Graph.{netOf, startOf};
-ghost use Rattle.tbo.specs.Rows.{Sized};
+ghost use Rattle.fraction.specs.Rows.{Sized};
 ghost use Rattle.tbo.specs.Bounded.{Bounded};
-
-// A number of time units for a number of tokens.
-pub struct Ratio {
-    pub num: u64,
-    pub den: u64,
-}
 
 // The row of an operation that takes no less than those before it.
 fn slowest(n: usize, times: &[u32; OPERATIONS]) -> usize

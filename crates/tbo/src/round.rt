@@ -1,7 +1,7 @@
 // Back along the noted places: as far as there are transitions, and once round where they come round.
-use crate::widen::count;
-use crate::widen::index;
-use crate::widen::wide;
+use fraction::widen::count;
+use fraction::widen::index;
+use fraction::widen::wide;
 use net::EDGES;
 use net::OPERATIONS;
 use net::TRANSITIONS;
@@ -13,7 +13,7 @@ ghost use Rattle.marked.specs.Net.{at};
 ghost use Rattle.net.specs.Plan.{rows};
 ghost use Rattle.net.specs.Graph.{netOf, startOf};
 ghost use Rattle.net.specs.Valid.{Valid};
-ghost use Rattle.tbo.specs.Rows.{Sized};
+ghost use Rattle.fraction.specs.Rows.{Sized};
 ghost use Rattle.tbo.specs.Chains.{Notes, Round, Turns, back, behind};
 
 // The transition before w: the source of the place that raised it last, or w itself.

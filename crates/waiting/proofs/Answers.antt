@@ -3,13 +3,14 @@ use mathlib.Core.Path.{_≡_, refl}
 use mathlib.Core.List.{List, [], _∷_}
 use Prim.Native.Nat.{_*_, _+_, _<_, _≤_, ℕ}
 use native.Mathlib.Omega.{arith}
-use Rattle.reader.specs.Refusals.{Sound, whole}
+use Rattle.file.specs.Refusals.{Sound, whole}
 use Rattle.reader.specs.Reply.{LookReply}
 use Rattle.reader.specs.Outcome.{accepted, passed, refusal, refused as stopped, unread}
 use Rattle.reader.specs.declared.graph.Graph.{Graph}
 use Rattle.reader.specs.declared.graph.Look.{Look}
 use Rattle.reader.specs.declared.graph.Verdict.the-variants.{Accepted as Passed, Refused as Stopped}
-use Rattle.reader.proofs.Clear.{Clear, clear-10, clear-more, given, given-more, lowest-whole, sound}
+use Rattle.file.proofs.Clear.{Clear, clear-more, given, given-more, lowest-whole, sound}
+use Rattle.reader.proofs.Outcomes.{clear-10}
 use Rattle.marking.specs.Rows.{Numbered, runRows, waitRows}
 use Rattle.marking.specs.Work.{Answered, graphOf}
 use Rattle.waiting.specs.Reply.{WaitReply, refused as replies-refused, waits as replies-waits}

@@ -8,7 +8,7 @@ use Rattle.marked.proofs.Demand.{wait-reached, wait-sum-unique, waits-unique}
 use Rattle.net.specs.Graph.{netOf}
 use Rattle.net.proofs.Shapes.{limited-proper}
 use Rattle.reader.specs.Reply.{LookReply, shown}
-use Rattle.reader.specs.Labels.{SameButLabels}
+use Rattle.file.specs.Labels.{SameButLabels}
 use Rattle.reader.specs.Outcome.{Ends, Outcome, passed}
 use Rattle.reader.specs.declared.graph.Look.{Look}
 use Rattle.reader.proofs.Accepting.{accepted as look-accepted}

@@ -8,7 +8,7 @@ use Rattle.marked.specs.Wait.{WaitSum}
 use Rattle.net.specs.Plan.{Joined, rows}
 use Rattle.net.specs.Graph.{netOf}
 use Rattle.reader.specs.Accepted.{Accepted}
-use Rattle.reader.specs.Refusals.{Given, Sound}
+use Rattle.file.specs.Refusals.{Given, Sound}
 use Rattle.reader.specs.Reply.{shown}
 use Rattle.reader.specs.declared.graph.Graph.{Graph}
 use Rattle.marking.specs.Rows.{waitRows}

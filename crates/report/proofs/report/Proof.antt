@@ -3,8 +3,8 @@ use native.Mathlib.Omega.{arith}
 use borrow.Author.Needs.{needs}
 use Rattle.reader.specs.Accepted.{Accepted}
 use Rattle.reader.proofs.Accepting.{accepted}
-use Rattle.report.specs.Reply.{short}
-use Rattle.report.proofs.Answers.{graph-reply, refused-reply}
+use Rattle.report.specs.Reply.{refused}
+use Rattle.report.proofs.Answers.{graph-reply, refused-reply, short-reply}
 use Rattle.report.proofs.report.Statement.{statement}
 use Rattle.report.proofs.report.Tie as tie
 
@@ -15,7 +15,7 @@ passed c =
     accepted _ (l .look .result) (c .enum-told .given .1) (l .look .ensures)
 
 returns : tie.Need-returns
-returns c = short (omega arith)
+returns c = short-reply _ (omega arith)
 
 look-requires : tie.Need-look-requires
 look-requires c κs = search needs
@@ -30,13 +30,15 @@ same-length : tie.Need-same-length
 same-length c = search needs
 
 returns-2 : tie.Need-returns-2
-returns-2 c = refused-reply (omega arith) (c .before .before .before .before .before .before .before .look .ensures) (c .before .before .before .before .before .verdict .given .1) (c .before .before .write-refused .ensures)
+returns-2 c =
+    let v = c .before .before .before .before .before in
+    refused-reply (v .before .before .look .ensures) (v .verdict .given .1) (refused (omega arith) (c .before .before .write-refused .ensures))
 
 enum-told : tie.Need-enum-told
 enum-told c = search needs
 
 answer-requires : tie.Need-answer-requires
-answer-requires c κs = record { graph = passed (c .before .before .before .before .before .before .before); room = omega arith }
+answer-requires c κs = (passed (c .before .before .before .before .before .before .before), omega arith)
 
 same-length-2 : tie.Need-same-length-2
 same-length-2 c = search needs
@@ -44,7 +46,7 @@ same-length-2 c = search needs
 returns-3 : tie.Need-returns-3
 returns-3 c =
     let k = c .before .before .before .before .before .before .before .before .before .before in
-    graph-reply (omega arith) (k .before .before .look .ensures) (k .enum-told .given .1) (c .before .before .answer .ensures .says)
+    graph-reply (k .before .before .look .ensures) (k .enum-told .given .1) (c .before .before .answer .ensures)
 
 pub report-spec : {M : Type 1} → statement M
 report-spec =

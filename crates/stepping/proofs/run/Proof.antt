@@ -2,8 +2,7 @@
 use denote.Ref.{now}
 use borrow.Author.Needs.{needs}
 use Rattle.reader.specs.Accepted.{Accepted}
-use Rattle.reader.proofs.Accepting.{accepted}
-use Rattle.marking.proofs.Judging.{accepted-single, accepted-valid}
+use Rattle.reader.proofs.Accepting.{accepted, accepted-single, accepted-valid}
 use Rattle.stepping.proofs.Answers.{run-reply, run-unread}
 use Rattle.stepping.proofs.run.Statement.{statement}
 use Rattle.stepping.proofs.run.Tie as tie

@@ -2,8 +2,7 @@
 use denote.Ref.{now}
 use borrow.Author.Needs.{needs}
 use Rattle.reader.specs.Accepted.{Accepted}
-use Rattle.reader.proofs.Accepting.{accepted}
-use Rattle.marking.proofs.Judging.{accepted-single}
+use Rattle.reader.proofs.Accepting.{accepted, accepted-single}
 use Rattle.stepping.proofs.Answers.{start-reply, start-unread}
 use Rattle.stepping.proofs.start.Statement.{statement}
 use Rattle.stepping.proofs.start.Tie as tie

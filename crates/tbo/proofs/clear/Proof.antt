@@ -1,7 +1,7 @@
 -- All entries are 0.
 use native.Mathlib.Omega.{arith}
 use mathlib.Core.Path.{refl}
-use Rattle.tbo.proofs.Sweeping.{zeros}
+use Rattle.marked.proofs.Fresh.{zeros}
 use Rattle.tbo.proofs.clear.Statement.{statement}
 use Rattle.tbo.proofs.clear.Tie as tie
 

@@ -33,25 +33,41 @@ wide-requires : tie.Need-wide-requires Inv-loop μ-loop
 wide-requires c κs = tt
 
 loop-holds : tie.Need-loop-holds Inv-loop μ-loop
-loop-holds c = let start = c .before .before .before .before .before in rw (c .wide .ensures) (ring-tour (start .args .e) (now (start .args .times)) (now (start .args .from)) (now (start .args .to)) (now (start .args .mark)) (c .before .before .slowest .ensures))
+loop-holds c =
+    let start = c .before .before .before .before .before in
+    let slowest = c .before .before .slowest in
+    rw (c .wide .ensures) (ring-tour (start .args .e) (now (start .args .times)) (now (start .args .from)) (now (start .args .to)) (now (start .args .mark)) (slowest .ensures))
 
 clear-requires : tie.Need-clear-requires Inv-loop μ-loop
 clear-requires c κs = tt
 
 improve-requires : tie.Need-improve-requires Inv-loop μ-loop
-improve-requires c κs = let start = c .before .before .before .before .before .before .before .before .before .before in (start .pre .0, ((c .before .before .before .before .before .before .before .before .order .ensures, pair-of (start .pre .0) (c .before .before .before .before .loop .inv)), record { low = λ v. omega (arith, c .before .before .clear .ensures .1 v); long = c .before .before .clear .ensures .0 }))
+improve-requires c κs =
+    let start = c .before .before .before .before .before .before .before .before .before .before in
+    let turn = c .before .before .before .before in
+    let order = c .before .before .before .before .before .before .before .before .order in
+    let clear = c .before .before .clear in
+    (start .pre .0, ((order .ensures, pair-of (start .pre .0) (turn .loop .inv)), record { low = λ v. omega (arith, clear .ensures .1 v); long = clear .ensures .0 }))
 
 enum-told : tie.Need-enum-told Inv-loop μ-loop
 enum-told c = search needs
 
 returns : tie.Need-returns Inv-loop μ-loop
-returns c = let start = c .before .before .before .before .before .before .before .before .before .before .before .before .before in bounded-of (start .pre .0) (start .pre .1) (c .before .before .before .before .before .before .before .loop .inv) (c .before .before .improve .ensures) (c .enum-told .given .1)
+returns c =
+    let start = c .before .before .before .before .before .before .before .before .before .before .before .before .before in
+    let turn = c .before .before .before .before .before .before .before in
+    let improve = c .before .before .improve in
+    bounded-of (start .pre .0) (start .pre .1) (turn .loop .inv) (improve .ensures) (c .enum-told .given .1)
 
 enum-known-f : tie.Need-enum-known-f Inv-loop μ-loop
 enum-known-f c = search needs
 
 loop-less : tie.Need-loop-less Inv-loop μ-loop
-loop-less c = let start = c .before .before .before .before .before .before .before .before .before .before .before .before .before .before in nearer-of (start .pre .0) (start .pre .1) (c .before .before .before .before .before .before .before .before .loop .inv) (c .before .before .before .improve .ensures) (c .before .f .given .1)
+loop-less c =
+    let start = c .before .before .before .before .before .before .before .before .before .before .before .before .before .before in
+    let turn = c .before .before .before .before .before .before .before .before in
+    let improve = c .before .before .before .improve in
+    nearer-of (start .pre .0) (start .pre .1) (turn .loop .inv) (improve .ensures) (c .before .f .given .1)
 
 loop-again : tie.Need-loop-again Inv-loop μ-loop
 loop-again c = verdict-better (c .before .before .before .improve .ensures .verdict) (c .before .f .given .1) .0

@@ -1,8 +1,7 @@
 -- Past the test look has accepted, so its rows are such as the calls ask.
 use denote.Ref.{now}
 use borrow.Author.Needs.{needs}
-use Rattle.reader.proofs.Accepting.{accepted}
-use Rattle.marking.proofs.Judging.{accepted-single, accepted-valid}
+use Rattle.reader.proofs.Accepting.{accepted, accepted-single, accepted-valid}
 use Rattle.wait_main.proofs.show_file.Statement.{statement}
 use Rattle.wait_main.proofs.show_file.Tie as tie
 

@@ -2,8 +2,7 @@
 use denote.Ref.{now}
 use borrow.Author.Needs.{needs}
 use Rattle.reader.specs.Accepted.{Accepted}
-use Rattle.reader.proofs.Accepting.{accepted}
-use Rattle.marking.proofs.Judging.{accepted-single, accepted-valid}
+use Rattle.reader.proofs.Accepting.{accepted, accepted-single, accepted-valid}
 use Rattle.waiting.proofs.Answers.{ended-reply, unread-reply}
 use Rattle.waiting.proofs.wait.Statement.{statement}
 use Rattle.waiting.proofs.wait.Tie as tie

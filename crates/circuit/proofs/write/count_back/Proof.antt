@@ -27,25 +27,47 @@ index-requires : tie.Need-index-requires Inv-loop μ-loop
 index-requires c κs = tt
 
 sub-q : tie.Need-sub-q Inv-loop μ-loop
-sub-q c = climb-place (c .before .before .before .before .pre .0) (c .before .before .before .before .pre .1 .0 .0) (c .before .before .before .loop .inv .0) (c .before .before .loop-test .taken) (c .index .ensures .0) .0
+sub-q c =
+    let start = c .before .before .before .before in
+    let turn = c .before .before .before in
+    let loop-test = c .before .before .loop-test in
+    climb-place (start .pre .0) (start .pre .1 .0 .0) (turn .loop .inv .0) (loop-test .taken) (c .index .ensures .0) .0
 
 element-copy-out-number : tie.Need-element-copy-out-number Inv-loop μ-loop
-element-copy-out-number c = let start = c .before .before .before .before in omega (arith, climb-place (start .pre .0) (start .pre .1 .0 .0) (c .before .before .before .loop .inv .0) (c .before .before .loop-test .taken) (c .index .ensures .0) .1, start .pre .0 .many)
+element-copy-out-number c =
+    let start = c .before .before .before .before in
+    let turn = c .before .before .before in
+    let loop-test = c .before .before .loop-test in
+    omega (arith, climb-place (start .pre .0) (start .pre .1 .0 .0) (turn .loop .inv .0) (loop-test .taken) (c .index .ensures .0) .1, start .pre .0 .many)
 
 number-requires : tie.Need-number-requires Inv-loop μ-loop
 number-requires c κs = tt
 
 add-k : tie.Need-add-k Inv-loop μ-loop
-add-k c = let start = c .before .before .before .before .before .before in let turn = c .before .before .before .before .before in omega (arith, climb-more (start .pre .0) (start .pre .1 .0 .0) (turn .loop .inv .0) (c .before .before .before .before .loop-test .taken), turn .loop .inv .1, start .pre .0 .few)
+add-k c =
+    let start = c .before .before .before .before .before .before in
+    let turn = c .before .before .before .before .before in
+    let loop-test = c .before .before .before .before .loop-test in
+    omega (arith, climb-more (start .pre .0) (start .pre .1 .0 .0) (turn .loop .inv .0) (loop-test .taken), turn .loop .inv .1, start .pre .0 .few)
 
 loop-less : tie.Need-loop-less Inv-loop μ-loop
-loop-less c = let start = c .before .before .before .before .before .before in let turn = c .before .before .before .before .before in omega (arith, climb-more (start .pre .0) (start .pre .1 .0 .0) (turn .loop .inv .0) (c .before .before .before .before .loop-test .taken), turn .loop .inv .1)
+loop-less c =
+    let start = c .before .before .before .before .before .before in
+    let turn = c .before .before .before .before .before in
+    let loop-test = c .before .before .before .before .loop-test in
+    omega (arith, climb-more (start .pre .0) (start .pre .1 .0 .0) (turn .loop .inv .0) (loop-test .taken), turn .loop .inv .1)
 
 loop-again : tie.Need-loop-again Inv-loop μ-loop
-loop-again c = (climb-on (c .before .before .before .before .before .loop .inv .0) (c .before .before .before .before .loop-test .taken) (c .before .before .index .ensures .0) (c .number .ensures .0), omega (arith, c .before .before .before .before .before .loop .inv .1))
+loop-again c =
+    let turn = c .before .before .before .before .before in
+    let loop-test = c .before .before .before .before .loop-test in
+    let index = c .before .before .index in
+    (climb-on (turn .loop .inv .0) (loop-test .taken) (index .ensures .0) (c .number .ensures .0), omega (arith, turn .loop .inv .1))
 
 returns : tie.Need-returns Inv-loop μ-loop
-returns c = record { noted = c .before .loop .inv .0 .noted; count = omega (arith, c .before .loop .inv .1, ap length (climb-end (c .before .before .pre .0) (c .before .before .pre .1 .0 .0) (c .before .loop .inv .0) (c .before .before .pre .1 .0 .1) (c .loop-test .left))) }
+returns c =
+    let start = c .before .before in
+    record { noted = c .before .loop .inv .0 .noted; count = omega (arith, c .before .loop .inv .1, ap length (climb-end (start .pre .0) (start .pre .1 .0 .0) (c .before .loop .inv .0) (start .pre .1 .0 .1) (c .loop-test .left))) }
 
 pub count-back-spec : {M : Type 1} → statement M
 count-back-spec =

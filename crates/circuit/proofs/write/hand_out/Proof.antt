@@ -25,58 +25,137 @@ number-requires-2 : tie.Need-number-requires-2 Inv-loop μ-loop
 number-requires-2 c κs = tt
 
 count-back-requires : tie.Need-count-back-requires Inv-loop μ-loop
-count-back-requires c κs = let start = c .before .before .before .before .before in (start .pre .0, ((root-in (start .pre .0) (start .pre .1 .0 .0) (start .pre .1 .0 .1) (c .number2 .ensures .0), root-apart (start .pre .0) (start .pre .1 .0 .0) (start .pre .1 .0 .1) (c .number2 .ensures .0) (c .before .before .number .ensures .0)), noted-to (start .args .nt) (start .args .np) (now (start .args .src)) (now (start .args .dst)) (now (start .args .via)) (start .args .p) (c .number2 .ensures .0) (c .before .before .number .ensures .0) (start .pre .1 .1)))
+count-back-requires c κs =
+    let start = c .before .before .before .before .before in
+    let number = c .before .before .number in
+    let root = root-in (start .pre .0) (start .pre .1 .0 .0) (start .pre .1 .0 .1) (c .number2 .ensures .0) in
+    let apart = root-apart (start .pre .0) (start .pre .1 .0 .0) (start .pre .1 .0 .1) (c .number2 .ensures .0) (number .ensures .0) in
+    let noted = noted-to (start .args .nt) (start .args .np) (now (start .args .src)) (now (start .args .dst)) (now (start .args .via)) (start .args .p) (c .number2 .ensures .0) (number .ensures .0) (start .pre .1 .1) in
+    (start .pre .0, ((root, apart), noted))
 
 loop-holds : tie.Need-loop-holds Inv-loop μ-loop
 loop-holds c = fill-start (c .count-back .ensures)
 
 mul-index : tie.Need-mul-index Inv-loop μ-loop
-mul-index c = let start = c .before .before .before .before .before .before .before .before in omega (arith, climb-in (start .pre .0) (root-in (start .pre .0) (start .pre .1 .0 .0) (start .pre .1 .0 .1) (c .before .before .before .number2 .ensures .0)) (c .before .loop .inv .climb), start .pre .0 .few)
+mul-index c =
+    let start = c .before .before .before .before .before .before .before .before in
+    let number2 = c .before .before .before .number2 in
+    let root = root-in (start .pre .0) (start .pre .1 .0 .0) (start .pre .1 .0 .1) (number2 .ensures .0) in
+    omega (arith, climb-in (start .pre .0) root (c .before .loop .inv .climb), start .pre .0 .few)
 
 element-copy-out-index : tie.Need-element-copy-out-index Inv-loop μ-loop
-element-copy-out-index c = let start = c .before .before .before .before .before .before .before .before in omega (arith, climb-in (start .pre .0) (root-in (start .pre .0) (start .pre .1 .0 .0) (start .pre .1 .0 .1) (c .before .before .before .number2 .ensures .0)) (c .before .loop .inv .climb), start .pre .0 .few)
+element-copy-out-index c =
+    let start = c .before .before .before .before .before .before .before .before in
+    let number2 = c .before .before .before .number2 in
+    let root = root-in (start .pre .0) (start .pre .1 .0 .0) (start .pre .1 .0 .1) (number2 .ensures .0) in
+    omega (arith, climb-in (start .pre .0) root (c .before .loop .inv .climb), start .pre .0 .few)
 
 index-requires : tie.Need-index-requires Inv-loop μ-loop
 index-requires c κs = tt
 
 sub-q : tie.Need-sub-q Inv-loop μ-loop
-sub-q c = let start = c .before .before .before .before .before .before .before .before .before .before in climb-place (start .pre .0) (root-in (start .pre .0) (start .pre .1 .0 .0) (start .pre .1 .0 .1) (c .before .before .before .before .before .number2 .ensures .0)) (c .before .before .before .loop .inv .climb) (c .before .before .loop-test .taken) (c .index .ensures .0) .0
+sub-q c =
+    let start = c .before .before .before .before .before .before .before .before .before .before in
+    let turn = c .before .before .before in
+    let number2 = c .before .before .before .before .before .number2 in
+    let loop-test = c .before .before .loop-test in
+    let root = root-in (start .pre .0) (start .pre .1 .0 .0) (start .pre .1 .0 .1) (number2 .ensures .0) in
+    let place = climb-place (start .pre .0) root (turn .loop .inv .climb) (loop-test .taken) (c .index .ensures .0) in
+    place .0
 
 sub-k : tie.Need-sub-k Inv-loop μ-loop
-sub-k c = let start = c .before .before .before .before .before .before .before .before .before .before in omega (arith, fill-left (start .pre .0) (root-in (start .pre .0) (start .pre .1 .0 .0) (start .pre .1 .0 .1) (c .before .before .before .before .before .number2 .ensures .0)) (c .before .before .before .loop .inv) (start .pre .1 .0 .2) (c .before .before .loop-test .taken) .0)
+sub-k c =
+    let start = c .before .before .before .before .before .before .before .before .before .before in
+    let turn = c .before .before .before in
+    let number2 = c .before .before .before .before .before .number2 in
+    let loop-test = c .before .before .loop-test in
+    let root = root-in (start .pre .0) (start .pre .1 .0 .0) (start .pre .1 .0 .1) (number2 .ensures .0) in
+    let room = fill-left (start .pre .0) root (turn .loop .inv) (start .pre .1 .0 .2) (loop-test .taken) in
+    omega (arith, room .0)
 
 cast-ring : tie.Need-cast-ring Inv-loop μ-loop
-cast-ring c = let start = c .before .before .before .before .before .before .before .before .before .before in omega (arith, climb-place (start .pre .0) (root-in (start .pre .0) (start .pre .1 .0 .0) (start .pre .1 .0 .1) (c .before .before .before .before .before .number2 .ensures .0)) (c .before .before .before .loop .inv .climb) (c .before .before .loop-test .taken) (c .index .ensures .0) .1, start .pre .0 .many)
+cast-ring c =
+    let start = c .before .before .before .before .before .before .before .before .before .before in
+    let turn = c .before .before .before in
+    let number2 = c .before .before .before .before .before .number2 in
+    let loop-test = c .before .before .loop-test in
+    let root = root-in (start .pre .0) (start .pre .1 .0 .0) (start .pre .1 .0 .1) (number2 .ensures .0) in
+    let place = climb-place (start .pre .0) root (turn .loop .inv .climb) (loop-test .taken) (c .index .ensures .0) in
+    omega (arith, place .1, start .pre .0 .many)
 
 mul-ring : tie.Need-mul-ring Inv-loop μ-loop
-mul-ring c = let start = c .before .before .before .before .before .before .before .before .before .before in omega (arith, fill-left (start .pre .0) (root-in (start .pre .0) (start .pre .1 .0 .0) (start .pre .1 .0 .1) (c .before .before .before .before .before .number2 .ensures .0)) (c .before .before .before .loop .inv) (start .pre .1 .0 .2) (c .before .before .loop-test .taken) .1, start .pre .0 .few)
+mul-ring c =
+    let start = c .before .before .before .before .before .before .before .before .before .before in
+    let turn = c .before .before .before in
+    let number2 = c .before .before .before .before .before .number2 in
+    let loop-test = c .before .before .loop-test in
+    let root = root-in (start .pre .0) (start .pre .1 .0 .0) (start .pre .1 .0 .1) (number2 .ensures .0) in
+    let room = fill-left (start .pre .0) root (turn .loop .inv) (start .pre .1 .0 .2) (loop-test .taken) in
+    omega (arith, room .1, start .pre .0 .few)
 
 slice-write-ring : tie.Need-slice-write-ring Inv-loop μ-loop
-slice-write-ring c = let start = c .before .before .before .before .before .before .before .before .before .before in let turn = c .before .before .before in omega (arith, fill-left (start .pre .0) (root-in (start .pre .0) (start .pre .1 .0 .0) (start .pre .1 .0 .1) (c .before .before .before .before .before .number2 .ensures .0)) (turn .loop .inv) (start .pre .1 .0 .2) (c .before .before .loop-test .taken) .0, fill-left (start .pre .0) (root-in (start .pre .0) (start .pre .1 .0 .0) (start .pre .1 .0 .1) (c .before .before .before .before .before .number2 .ensures .0)) (turn .loop .inv) (start .pre .1 .0 .2) (c .before .before .loop-test .taken) .1, turn .loop .inv .long, start .pre .1 .0 .2)
+slice-write-ring c =
+    let start = c .before .before .before .before .before .before .before .before .before .before in
+    let turn = c .before .before .before in
+    let number2 = c .before .before .before .before .before .number2 in
+    let loop-test = c .before .before .loop-test in
+    let root = root-in (start .pre .0) (start .pre .1 .0 .0) (start .pre .1 .0 .1) (number2 .ensures .0) in
+    let room = fill-left (start .pre .0) root (turn .loop .inv) (start .pre .1 .0 .2) (loop-test .taken) in
+    omega (arith, room .0, room .1, turn .loop .inv .long, start .pre .1 .0 .2)
 
 element-copy-out-number-3 : tie.Need-element-copy-out-number-3 Inv-loop μ-loop
-element-copy-out-number-3 c = let start = c .before .before .before .before .before .before .before .before .before .before in omega (arith, climb-place (start .pre .0) (root-in (start .pre .0) (start .pre .1 .0 .0) (start .pre .1 .0 .1) (c .before .before .before .before .before .number2 .ensures .0)) (c .before .before .before .loop .inv .climb) (c .before .before .loop-test .taken) (c .index .ensures .0) .1, start .pre .0 .many)
+element-copy-out-number-3 c =
+    let start = c .before .before .before .before .before .before .before .before .before .before in
+    let turn = c .before .before .before in
+    let number2 = c .before .before .before .before .before .number2 in
+    let loop-test = c .before .before .loop-test in
+    let root = root-in (start .pre .0) (start .pre .1 .0 .0) (start .pre .1 .0 .1) (number2 .ensures .0) in
+    let place = climb-place (start .pre .0) root (turn .loop .inv .climb) (loop-test .taken) (c .index .ensures .0) in
+    omega (arith, place .1, start .pre .0 .many)
 
 number-requires-3 : tie.Need-number-requires-3 Inv-loop μ-loop
 number-requires-3 c κs = tt
 
 loop-less : tie.Need-loop-less Inv-loop μ-loop
-loop-less c = let start = c .before .before .before .before .before .before .before .before .before .before .before .before in omega (arith, fill-left (start .pre .0) (root-in (start .pre .0) (start .pre .1 .0 .0) (start .pre .1 .0 .1) (c .before .before .before .before .before .before .before .number2 .ensures .0)) (c .before .before .before .before .before .loop .inv) (start .pre .1 .0 .2) (c .before .before .before .before .loop-test .taken) .0)
+loop-less c =
+    let start = c .before .before .before .before .before .before .before .before .before .before .before .before in
+    let turn = c .before .before .before .before .before in
+    let number2 = c .before .before .before .before .before .before .before .number2 in
+    let loop-test = c .before .before .before .before .loop-test in
+    let root = root-in (start .pre .0) (start .pre .1 .0 .0) (start .pre .1 .0 .1) (number2 .ensures .0) in
+    let room = fill-left (start .pre .0) root (turn .loop .inv) (start .pre .1 .0 .2) (loop-test .taken) in
+    omega (arith, room .0)
 
 loop-again : tie.Need-loop-again Inv-loop μ-loop
-loop-again c = let start = c .before .before .before .before .before .before .before .before .before .before .before .before in fill-on (start .pre .0) (root-in (start .pre .0) (start .pre .1 .0 .0) (start .pre .1 .0 .1) (c .before .before .before .before .before .before .before .number2 .ensures .0)) (c .before .before .before .before .before .loop .inv) (start .pre .1 .0 .2) (c .before .before .before .before .loop-test .taken) (c .before .before .index .ensures .0) (c .number3 .ensures .0)
+loop-again c =
+    let start = c .before .before .before .before .before .before .before .before .before .before .before .before in
+    let turn = c .before .before .before .before .before in
+    let number2 = c .before .before .before .before .before .before .before .number2 in
+    let loop-test = c .before .before .before .before .loop-test in
+    let index = c .before .before .index in
+    let root = root-in (start .pre .0) (start .pre .1 .0 .0) (start .pre .1 .0 .1) (number2 .ensures .0) in
+    fill-on (start .pre .0) root (turn .loop .inv) (start .pre .1 .0 .2) (loop-test .taken) (index .ensures .0) (c .number3 .ensures .0)
 
 cast-ring-2 : tie.Need-cast-ring-2 Inv-loop μ-loop
 cast-ring-2 c = omega (arith, c .before .before .before .before .before .before .before .before .pre .1 .0 .0, c .before .before .before .before .before .before .before .before .pre .0 .many)
 
 slice-write-ring-2 : tie.Need-slice-write-ring-2 Inv-loop μ-loop
-slice-write-ring-2 c = let start = c .before .before .before .before .before .before .before .before in omega (arith, root-in (start .pre .0) (start .pre .1 .0 .0) (start .pre .1 .0 .1) (c .before .before .before .number2 .ensures .0), c .before .loop .inv .long, start .pre .1 .0 .2)
+slice-write-ring-2 c =
+    let start = c .before .before .before .before .before .before .before .before in
+    let number2 = c .before .before .before .number2 in
+    omega (arith, root-in (start .pre .0) (start .pre .1 .0 .0) (start .pre .1 .0 .1) (number2 .ensures .0), c .before .loop .inv .long, start .pre .1 .0 .2)
 
 same-length : tie.Need-same-length Inv-loop μ-loop
 same-length c = simp length-set (c .before .loop .inv .long)
 
 returns : tie.Need-returns Inv-loop μ-loop
-returns c = let start = c .before .before .before .before .before .before .before .before in fill-end (start .pre .0) (root-in (start .pre .0) (start .pre .1 .0 .0) (start .pre .1 .0 .1) (c .before .before .before .number2 .ensures .0)) (c .before .loop .inv) (start .pre .1 .0 .2) (c .before .before .before .number2 .ensures .0) (c .before .before .before .before .before .number .ensures .0) (root-apart (start .pre .0) (start .pre .1 .0 .0) (start .pre .1 .0 .1) (c .before .before .before .number2 .ensures .0) (c .before .before .before .before .before .number .ensures .0)) (c .loop-test .left)
+returns c =
+    let start = c .before .before .before .before .before .before .before .before in
+    let number = c .before .before .before .before .before .number in
+    let number2 = c .before .before .before .number2 in
+    let root = root-in (start .pre .0) (start .pre .1 .0 .0) (start .pre .1 .0 .1) (number2 .ensures .0) in
+    let apart = root-apart (start .pre .0) (start .pre .1 .0 .0) (start .pre .1 .0 .1) (number2 .ensures .0) (number .ensures .0) in
+    fill-end (start .pre .0) root (c .before .loop .inv) (start .pre .1 .0 .2) (number2 .ensures .0) (number .ensures .0) apart (c .loop-test .left)
 
 pub hand-out-spec : {M : Type 1} → statement M
 hand-out-spec =

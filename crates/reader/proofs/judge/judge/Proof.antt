@@ -2,11 +2,11 @@
 use native.Mathlib.Omega.{arith}
 use denote.Ref.{now}
 use Rattle.net.specs.Valid.{Valid}
-use Rattle.reader.specs.Refusals.{row, Kept, Lowest}
-use Rattle.reader.specs.Rows.{table}
-use Rattle.reader.proofs.Answers.{finds-at, finds-none}
-use Rattle.reader.proofs.Order.{framed-clear}
-use Rattle.reader.proofs.Clear.{Clear, clear-more, given, sound}
+use Rattle.file.specs.Refusals.{row, Kept, Lowest}
+use Rattle.file.specs.Rows.{table}
+use Rattle.file.proofs.Answers.{finds-at, finds-none}
+use Rattle.file.proofs.Order.{framed-clear}
+use Rattle.file.proofs.Clear.{Clear, clear-more, given, sound}
 use Rattle.reader.proofs.Judging.{finds-bare, finds-apart, finds-dead, rows-valid, rows-marked}
 use borrow.Author.Needs.{needs}
 use Rattle.reader.proofs.judge.judge.Statement.{statement}

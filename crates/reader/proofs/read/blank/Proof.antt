@@ -1,6 +1,6 @@
 -- Every entry is 0 from the start.
 use mathlib.Core.Path.{refl}
-use Rattle.reader.proofs.Filling.{filled-none}
+use Rattle.tables.proofs.Filling.{filled-none}
 use Rattle.reader.proofs.read.blank.Statement.{statement}
 use Rattle.reader.proofs.read.blank.Tie as tie
 

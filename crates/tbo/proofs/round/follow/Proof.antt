@@ -4,10 +4,10 @@ use mathlib.Core.Path.{_≡_, _∙_, ap}
 use mathlib.Core.List.{List, []}
 use denote.Ref.{now}
 use native.Mathlib.Omega.{arith}
-use Rattle.net.proofs.Shapes.{valid-proper}
+use Rattle.marked.specs.Net.{at}
 use Rattle.net.specs.Graph.{netOf}
 use Rattle.net.specs.Plan.{rows}
-use Rattle.marked.specs.Net.{at}
+use Rattle.net.proofs.Shapes.{valid-proper}
 use Rattle.tbo.specs.Chains.{back}
 use Rattle.tbo.proofs.Chains.{back-in, back-none, back-step}
 use Rattle.tbo.proofs.round.follow.Statement.{statement}
@@ -29,7 +29,9 @@ add-loop : tie.Need-add-loop Inv-loop μ-loop
 add-loop c = omega (arith, c .before .pre .0 .operations)
 
 step-back-requires : tie.Need-step-back-requires Inv-loop μ-loop
-step-back-requires c κs = (c .before .before .pre .0, (c .before .before .pre .1 .0 [] [] .inside, omega (arith, c .before .before .pre .0 .operations, c .before .loop .inv .1 [] [], back-in (c .before .before .pre .1 .0 [] []) (valid-proper (c .before .before .pre .0) [] []) (c .before .loop .k) (c .before .before .args .v) (c .before .before .pre .1 .1))))
+step-back-requires c κs =
+    let start = c .before .before in
+    (start .pre .0, (start .pre .1 .0 [] [] .inside, omega (arith, start .pre .0 .operations, c .before .loop .inv .1 [] [], back-in (start .pre .1 .0 [] []) (valid-proper (start .pre .0) [] []) (c .before .loop .k) (start .args .v) (start .pre .1 .1))))
 
 add-k : tie.Need-add-k Inv-loop μ-loop
 add-k c = omega (arith, c .before .before .before .pre .0 .operations)
@@ -41,7 +43,9 @@ loop-again : tie.Need-loop-again Inv-loop μ-loop
 loop-again c = (omega arith, λ times mark. back-step _ _ _ _ _ _ (c .before .before .loop .inv .1 times mark) (c .step-back .ensures times mark))
 
 returns : tie.Need-returns Inv-loop μ-loop
-returns c = λ times mark. c .before .loop .inv .1 times mark ∙ ap (λ (z : ℕ). back (netOf (rows (c .before .before .args .n) (c .before .before .args .e) times (now (c .before .before .args .from)) (now (c .before .before .args .to)) mark)) (at (now (c .before .before .args .pred))) z (c .before .before .args .v)) (omega arith)
+returns c =
+    let start = c .before .before in
+    λ times mark. c .before .loop .inv .1 times mark ∙ ap (λ (z : ℕ). back (netOf (rows (start .args .n) (start .args .e) times (now (start .args .from)) (now (start .args .to)) mark)) (at (now (start .args .pred))) z (start .args .v)) (omega arith)
 
 pub follow-spec : {M : Type 1} → statement M
 follow-spec =

@@ -30,7 +30,10 @@ place-src-requires : tie.Need-place-src-requires
 place-src-requires c κs = (c .before .before .before .pre .0, c .before .before .before .pre .1 .0 (c .before .before .before .args .w) (c .before .index .result - 1) (omega (arith, c .before .index .ensures .0)))
 
 returns-2 : tie.Need-returns-2
-returns-2 c = let start = c .before .before .before .before in λ times mark. c .place-src .ensures .is ∙ behind-noted (netOf (rows (start .args .n) (start .args .e) times (now (start .args .from)) (now (start .args .to)) mark)) _ (at (now (start .args .pred)) (start .args .w)) (c .before .before .index .result - 1) (omega (arith, c .before .before .index .ensures .0))
+returns-2 c =
+    let start = c .before .before .before .before in
+    let index = c .before .before .index in
+    λ times mark. c .place-src .ensures .is ∙ behind-noted (netOf (rows (start .args .n) (start .args .e) times (now (start .args .from)) (now (start .args .to)) mark)) _ (at (now (start .args .pred)) (start .args .w)) (index .result - 1) (omega (arith, index .ensures .0))
 
 pub step-back-spec : {M : Type 1} → statement M
 step-back-spec =

@@ -1,7 +1,7 @@
 -- A frame that is wrong gives its refusal; else the verdict of `judge` stands beside the graph that was read, or beside an empty one.
 use denote.Ref.{now}
-use Rattle.reader.specs.Rows.{Framed}
-use Rattle.reader.specs.Work.{Opened}
+use Rattle.file.specs.Rows.{Framed}
+use Rattle.file.specs.Work.{Opened}
 use Rattle.reader.proofs.Judging.{beside-accepted, beside-refused}
 use borrow.Author.Needs.{needs}
 use Rattle.reader.proofs.graph.Graph.from_file.Statement.{statement}

@@ -1,0 +1,3 @@
+pub mod Dead
+pub mod Climb
+pub mod Closing

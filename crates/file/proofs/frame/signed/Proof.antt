@@ -1,0 +1,52 @@
+-- The two bytes and the ending, one after the other.
+use Rattle.net.specs.Work.{fails}
+use mathlib.Core.Path.{sym, _∙_}
+use Rattle.file.specs.File.{trailerAt}
+use Rattle.net.proofs.Answers.{says-map}
+use borrow.Author.Needs.{needs}
+use Rattle.file.proofs.frame.signed.Statement.{statement}
+use Rattle.file.proofs.frame.signed.Tie as tie
+
+sub-at : tie.Need-sub-at
+sub-at c = search needs
+
+add-byte : tie.Need-add-byte
+add-byte c = search needs
+
+byte-requires : tie.Need-byte-requires
+byte-requires c κs = search needs
+
+returns : tie.Need-returns
+unfolding trailerAt
+returns c = fails (λ h. c .if1 .taken (c .before .byte .ensures ∙ h .layout))
+
+add-byte-2 : tie.Need-add-byte-2
+add-byte-2 c = search needs
+
+byte-requires-2 : tie.Need-byte-requires-2
+byte-requires-2 c κs = search needs
+
+returns-2 : tie.Need-returns-2
+unfolding trailerAt
+returns-2 c = fails (λ h. c .if2 .taken (c .before .byte2 .ensures ∙ h .zero-byte))
+
+ends-requires : tie.Need-ends-requires
+ends-requires c κs = search needs
+
+returns-3 : tie.Need-returns-3
+unfolding trailerAt
+returns-3 c = says-map (λ e. record { layout = sym (c .before .before .before .before .byte .ensures) ∙ c .before .before .before .if1 .left; zero-byte = sym (c .before .before .byte2 .ensures) ∙ c .before .if2 .left; ends = e }) (λ h. h .ends) (c .ends .ensures)
+
+pub signed-spec : {M : Type 1} → statement M
+signed-spec =
+    tie.close
+    (tie.spec
+    sub-at
+    add-byte
+    byte-requires
+    returns
+    add-byte-2
+    byte-requires-2
+    returns-2
+    ends-requires
+    returns-3)

@@ -1,0 +1,146 @@
+// Rows 1 to 4: the length, the signature, the counts and where the tables stand.
+use crate::LENGTH;
+use crate::MAGIC;
+use crate::SHORTEST;
+use little::byte;
+use little::word;
+use net::EDGES;
+use net::OPERATIONS;
+ghost use Rattle.file.specs.Rows.{Sized, EndsWithMagic, Signed, Counted, Laid};
+ghost use Rattle.net.specs.Work.{Says};
+ghost use Rattle.file.specs.Work.{TrailerOf, Frames};
+
+// The numbers of a file's trailer.
+pub struct Trailer {
+    pub optable: usize,
+    pub operations: usize,
+    pub edgetable: usize,
+    pub edges: usize,
+    pub back: usize,
+}
+
+pub fn sized(file: &[u8]) -> bool
+    ensures { λ r. ⌜ Says (Sized (now (file .entry))) r ⌝ }
+{
+    if file.len() < SHORTEST {
+        return false;
+    }
+    if LENGTH < file.len() {
+        return false;
+    }
+    true
+}
+
+pub fn numbers(file: &[u8]) -> Trailer
+    requires { ⌜ Sized (now file) ⌝ }
+    ensures { λ r. ⌜ TrailerOf (now (file .entry)) r ⌝ }
+{
+    let at = file.len() - SHORTEST;
+    Trailer {
+        optable: word(file, at) as usize,
+        operations: word(file, at + 2) as usize,
+        edgetable: word(file, at + 4) as usize,
+        edges: word(file, at + 6) as usize,
+        back: word(file, at + 8) as usize,
+    }
+}
+
+// AMG1 stands at the very end.
+fn ends(file: &[u8]) -> bool
+    requires { ⌜ Sized (now file) ⌝ }
+    ensures { λ r. ⌜ Says (EndsWithMagic (now (file .entry))) r ⌝ }
+{
+    let at = file.len() - 4;
+    let mut i = 0;
+    while i < 4 {
+        if byte(file, at + i) != MAGIC[i] {
+            return false;
+        }
+        i += 1;
+    }
+    true
+}
+
+pub fn signed(file: &[u8]) -> bool
+    requires { ⌜ Sized (now file) ⌝ }
+    ensures { λ r. ⌜ Says (Signed (now (file .entry))) r ⌝ }
+{
+    let at = file.len() - SHORTEST;
+    if byte(file, at + 10) != 1 {
+        return false;
+    }
+    if byte(file, at + 11) != 0 {
+        return false;
+    }
+    ends(file)
+}
+
+pub fn counted(file: &[u8]) -> bool
+    requires { ⌜ Sized (now file) ⌝ }
+    ensures { λ r. ⌜ Says (Counted (now (file .entry))) r ⌝ }
+{
+    let t = numbers(file);
+    if t.operations < 1 {
+        return false;
+    }
+    if OPERATIONS < t.operations {
+        return false;
+    }
+    if t.edges < 2 {
+        return false;
+    }
+    if EDGES < t.edges {
+        return false;
+    }
+    true
+}
+
+// The tables are never empty, so the one that comes first stands at 0 and the other right behind it.
+pub fn laid(file: &[u8]) -> bool
+    requires { ⌜ Sized (now file) ⌝ }
+    requires { ⌜ Counted (now file) ⌝ }
+    ensures { λ r. ⌜ Says (Laid (now (file .entry))) r ⌝ }
+{
+    let t = numbers(file);
+    let before = file.len() - SHORTEST;
+    let operations = 12 * t.operations;
+    let edges = 4 * t.edges;
+    if t.back != before {
+        return false;
+    }
+    if operations + edges != before {
+        return false;
+    }
+    if t.optable == 0 {
+        if t.edgetable != operations {
+            return false;
+        }
+        return true;
+    }
+    if t.edgetable != 0 {
+        return false;
+    }
+    if t.optable != edges {
+        return false;
+    }
+    true
+}
+
+// The lowest of rows 1 to 4 that applies, or 0.
+pub fn framed(file: &[u8]) -> u8
+    ensures { λ r. ⌜ Frames (now (file .entry)) r ⌝ }
+{
+    if !sized(file) {
+        return 1;
+    }
+    if !signed(file) {
+        return 2;
+    }
+    if !counted(file) {
+        return 3;
+    }
+    if !laid(file) {
+        return 4;
+    }
+    0
+}

@@ -1,0 +1,53 @@
+-- Four lines, one behind the other: what is left of them fits behind what is put of them.
+use borrow.Author.Needs.{needs}
+use Rattle.pen.proofs.PutLaws.{first-room, then-room, then-put}
+use Rattle.lines.specs.Text.{boundLines}
+use Rattle.lines.proofs.head.bound_lines.Statement.{statement}
+use Rattle.lines.proofs.head.bound_lines.Tie as tie
+
+slice-aggregate-pair-line : tie.Need-slice-aggregate-pair-line
+slice-aggregate-pair-line c = search needs
+
+slice-aggregate-pair-line-2 : tie.Need-slice-aggregate-pair-line-2
+slice-aggregate-pair-line-2 c = search needs
+
+pair-line-requires : tie.Need-pair-line-requires
+unfolding boundLines
+pair-line-requires c κs = first-room _ (c .before .before .before .before .pre)
+
+slice-aggregate-item-line : tie.Need-slice-aggregate-item-line
+slice-aggregate-item-line c = search needs
+
+item-line-requires : tie.Need-item-line-requires
+unfolding boundLines
+item-line-requires c κs = first-room _ (then-room (c .before .before .before .before .pair-line .ensures) (c .before .before .before .before .before .before .before .before .before .pre))
+
+slice-aggregate-item-line-2 : tie.Need-slice-aggregate-item-line-2
+slice-aggregate-item-line-2 c = search needs
+
+item-line-requires-2 : tie.Need-item-line-requires-2
+unfolding boundLines
+item-line-requires-2 c κs = first-room _
+    (then-room (c .before .before .before .before .item-line .ensures)
+    (then-room (c .before .before .before .before .before .before .before .before .before .pair-line .ensures) (c .before .before .before .before .before .before .before .before .before .before .before .before .before .before .pre)))
+
+slice-aggregate-item-line-3 : tie.Need-slice-aggregate-item-line-3
+slice-aggregate-item-line-3 c = search needs
+
+item-line-requires-3 : tie.Need-item-line-requires-3
+unfolding boundLines
+item-line-requires-3 c κs = then-room (c .before .before .before .before .item-line2 .ensures)
+    (then-room (c .before .before .before .before .before .before .before .before .before .item-line .ensures)
+    (then-room (c .before .before .before .before .before .before .before .before .before .before .before .before .before .before .pair-line .ensures) (c .before .before .before .before .before .before .before .before .before .before .before .before .before .before .before .before .before .before .before .pre)))
+
+same-length : tie.Need-same-length
+same-length c = search needs
+
+returns : tie.Need-returns
+unfolding boundLines
+returns c = then-put (c .before .before .before .before .before .before .before .before .before .before .before .before .before .before .before .before .before .pair-line .ensures)
+    (then-put (c .before .before .before .before .before .before .before .before .before .before .before .before .item-line .ensures)
+    (then-put (c .before .before .before .before .before .before .before .item-line2 .ensures) (c .before .before .item-line3 .ensures)))
+
+pub bound-lines-spec : {M : Type 1} → statement M
+bound-lines-spec = tie.close (tie.spec slice-aggregate-pair-line slice-aggregate-pair-line-2 pair-line-requires slice-aggregate-item-line item-line-requires slice-aggregate-item-line-2 item-line-requires-2 slice-aggregate-item-line-3 item-line-requires-3 same-length returns)

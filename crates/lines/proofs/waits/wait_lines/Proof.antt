@@ -1,0 +1,53 @@
+-- The loop's invariant: the lines of the first t transitions are put.
+use Prim.Native.Nat.{_+_, _*_, _-_}
+use native.Mathlib.Omega.{arith}
+use borrow.Author.Needs.{needs}
+use Rattle.marked.specs.Net.{at}
+use Rattle.pen.proofs.PutLaws.{Putting, putting-start, putting-room, putting-on, putting-end, put-length}
+use Rattle.lines.specs.Text.{waitOf, waitLines}
+use Rattle.lines.proofs.waits.wait_lines.Statement.{statement}
+use Rattle.lines.proofs.waits.wait_lines.Tie as tie
+
+abbrev Inv-loop : tie.InvT-loop
+Inv-loop buf₀ start n waits next₀ t₀ buf next t = Putting (waitOf (at waits)) (3 * n + 2) buf₀ start buf next t
+
+abbrev μ-loop : tie.MeasureT-loop
+μ-loop buf₀ start n waits next₀ t₀ buf next t = 3 * n + 2 - t
+
+loop-holds : tie.Need-loop-holds Inv-loop μ-loop
+unfolding waitLines
+loop-holds c = putting-start (c .before .before .pre .1)
+
+mul-loop : tie.Need-mul-loop Inv-loop μ-loop
+mul-loop c = search needs
+
+add-loop : tie.Need-add-loop Inv-loop μ-loop
+add-loop c = search needs
+
+mul-wait-line : tie.Need-mul-wait-line Inv-loop μ-loop
+mul-wait-line c = search needs
+
+shared-slice-read-wait-line : tie.Need-shared-slice-read-wait-line Inv-loop μ-loop
+shared-slice-read-wait-line c = search needs
+
+wait-line-requires : tie.Need-wait-line-requires Inv-loop μ-loop
+wait-line-requires c κs = putting-room (c .before .before .before .loop .inv) (omega arith)
+
+add-t : tie.Need-add-t Inv-loop μ-loop
+add-t c = search needs
+
+loop-less : tie.Need-loop-less Inv-loop μ-loop
+loop-less c = search needs
+
+loop-again : tie.Need-loop-again Inv-loop μ-loop
+loop-again c = putting-on (c .before .before .before .before .before .before .loop .inv) (omega arith) (c .before .before .wait-line .ensures)
+
+same-length : tie.Need-same-length Inv-loop μ-loop
+same-length c = put-length (c .before .loop .inv .put)
+
+returns : tie.Need-returns Inv-loop μ-loop
+unfolding waitLines
+returns c = putting-end (c .before .loop .inv) (omega arith)
+
+pub wait-lines-spec : {M : Type 1} → statement M
+wait-lines-spec = tie.close (tie.spec Inv-loop μ-loop loop-holds mul-loop add-loop mul-wait-line shared-slice-read-wait-line wait-line-requires add-t loop-less loop-again same-length returns)

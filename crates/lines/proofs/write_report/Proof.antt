@@ -1,0 +1,34 @@
+-- Two texts, one behind the other: the head and the waits. The whole fits, since its numbers are short.
+use native.Mathlib.Omega.{arith}
+use borrow.Author.Needs.{needs}
+use Rattle.marked.specs.Net.{at}
+use Rattle.pen.specs.Lines.{Fits}
+use Rattle.pen.proofs.PutLaws.{first-room, then-room, then-put}
+use Rattle.lines.specs.Text.{reportText}
+use Rattle.lines.proofs.FitLaws.{writable-fits}
+use Rattle.lines.proofs.write_report.Statement.{statement}
+use Rattle.lines.proofs.write_report.Tie as tie
+
+-- there is room for the report
+fits : (c : tie.After-shared-slice-known2) → let s : tie.Start = c .before .before .before in
+    Fits (s .args .buf .now) 0 (reportText (s .args .n) (s .args .e) (s .args .a) (s .args .b) (s .args .tbio) (s .args .total) (s .args .tce) (s .args .ring .now) (at (s .args .waits .now)))
+fits c = let s : tie.Start = c .before .before .before in
+    writable-fits (s .pre) (s .args .tbio) (s .args .total) (s .args .tce) (omega arith) (omega arith) (omega arith) (λ i. omega (arith, c .before .shared-slice-known .given i)) (λ t. omega (arith, c .shared-slice-known2 .given t))
+
+head-lines-requires : tie.Need-head-lines-requires
+unfolding reportText
+head-lines-requires c κs = (c .before .before .before .before .pre .counts, first-room _ (fits (c .before)))
+
+wait-lines-requires : tie.Need-wait-lines-requires
+unfolding reportText
+wait-lines-requires c κs = (c .before .before .before .before .before .before .before .before .pre .each, then-room (c .before .before .before .head-lines .ensures) (fits (c .before .before .before .before .before)))
+
+same-length : tie.Need-same-length
+same-length c = search needs
+
+returns : tie.Need-returns
+unfolding reportText
+returns c = then-put (c .before .before .before .before .before .before .head-lines .ensures) (c .before .before .wait-lines .ensures)
+
+pub write-report-spec : {M : Type 1} → statement M
+write-report-spec = tie.close (tie.spec head-lines-requires wait-lines-requires same-length returns)

@@ -1,0 +1,79 @@
+// Row 8: the lowest node that is not joined to the source. Marks spread along the edges, pass after pass, until a pass marks nothing.
+use crate::linked::wide;
+use net::EDGES;
+use net::Found;
+use net::NODES;
+ghost use mathlib.Core.Bool.{false};
+ghost use Prim.Native.Nat.{_+_, _<_};
+ghost use Rattle.net.specs.Plan.{Joined};
+ghost use Rattle.net.specs.Valid.{Valid};
+ghost use Rattle.file.specs.Refusals.{each};
+ghost use Rattle.file.specs.Rows.{Node};
+ghost use Rattle.file.specs.Work.{Finds};
+ghost use Rattle.links.specs.Work.{Ended, Reached, Spread, Passed, Marks, wires};
+
+// Where one end of edge k is marked, the other is marked too. The answer is whether a node has been marked, now or before.
+fn spread(
+    e: usize,
+    from: &[u8; EDGES],
+    to: &[u8; EDGES],
+    k: usize,
+    seen: &mut [u8; NODES],
+    changed: bool,
+) -> bool
+    requires { ⌜ Ended e (now from) (now to) ⌝ }
+    requires { ⌜ Reached e (now from) (now to) (now seen) ⌝ }
+    requires { ⌜ k < e ⌝ }
+    ensures { λ r. ⌜ Spread e (now (from .entry)) (now (to .entry)) k (now (seen .entry)) changed (now (seen .exit)) r ⌝ }
+{
+    let a = wide(from[k]);
+    let b = wide(to[k]);
+    if seen[a] == seen[b] {
+        return changed;
+    }
+    seen[a] = 1;
+    seen[b] = 1;
+    true
+}
+
+// Every edge once.
+fn pass(e: usize, from: &[u8; EDGES], to: &[u8; EDGES], seen: &mut [u8; NODES]) -> bool
+    requires { ⌜ Ended e (now from) (now to) ⌝ }
+    requires { ⌜ Reached e (now from) (now to) (now seen) ⌝ }
+    ensures { λ r. ⌜ Passed e (now (from .entry)) (now (to .entry)) e (now (seen .entry)) (now (seen .exit)) r ⌝ }
+{
+    let mut changed = false;
+    let mut k = 0;
+    while k < e {
+        changed = spread(e, from, to, k, seen, changed);
+        k += 1;
+    }
+    changed
+}
+
+// The nodes that are joined to the source.
+fn reach(e: usize, from: &[u8; EDGES], to: &[u8; EDGES]) -> [u8; NODES]
+    requires { ⌜ Ended e (now from) (now to) ⌝ }
+    ensures { λ r. ⌜ Marks e (now (from .entry)) (now (to .entry)) r ⌝ }
+{
+    let mut seen = [0u8; NODES];
+    seen[0] = 1;
+    while pass(e, from, to, &mut seen) {}
+    seen
+}
+
+pub fn first_apart<'a>(n: usize, e: usize, from: &'a [u8; EDGES], to: &'a [u8; EDGES]) -> Found
+    requires { ⌜ Valid n e (now from) (now to) ⌝ }
+    ensures { λ r. ⌜ Finds (each (Node (wires n e (now (from .entry)) (now (to .entry)))) (Joined (wires n e (now (from .entry)) (now (to .entry))))) r ⌝ }
+{
+    let seen = reach(e, from, to);
+    let last = n + 1;
+    let mut node = 0;
+    while node <= last {
+        if seen[node] != 1 {
+            return Found::At(node);
+        }
+        node += 1;
+    }
+    Found::Nothing
+}

@@ -1,0 +1,62 @@
+-- `entry_core`: the step at the record's list position, and the record after its answer.
+use borrow.Author.Needs.{needs}
+use Rattle.running.proofs.Entries.{entry-fired, entry-refused, ready-few}
+use Rattle.running.proofs.entry.entry_core.Statement.{statement}
+use Rattle.running.proofs.entry.entry_core.Tie as tie
+
+mul-step-rows : tie.Need-mul-step-rows
+mul-step-rows c = search needs
+
+sub-step-rows : tie.Need-sub-step-rows
+sub-step-rows c = search needs
+
+mul-step-rows-2 : tie.Need-mul-step-rows-2
+mul-step-rows-2 c = search needs
+
+shared-slice-read-step-rows : tie.Need-shared-slice-read-step-rows
+shared-slice-read-step-rows c = search needs
+
+step-rows-requires : tie.Need-step-rows-requires
+step-rows-requires c κs = ready-few (c .before .before .before .before .args .rec) (c .before .before .before .before .pre)
+
+enum-told : tie.Need-enum-told
+enum-told c = search needs
+
+add-t19 : tie.Need-add-t19
+add-t19 c = search needs
+
+add-t20 : tie.Need-add-t20
+add-t20 c = search needs
+
+same-length : tie.Need-same-length
+same-length c = search needs
+
+returns : tie.Need-returns
+returns c = entry-fired (c .before .before .before .before .before .before .before .before .before .before .args .rec) (c .before .before .before .before .before .step-rows .ensures) (c .before .enum-told .given .1)
+
+enum-told-2 : tie.Need-enum-told-2
+enum-told-2 c = search needs
+
+same-length-2 : tie.Need-same-length-2
+same-length-2 c = search needs
+
+returns-2 : tie.Need-returns-2
+returns-2 c = entry-refused (c .before .before .before .before .before .before .before .before .before .args .rec) (c .before .before .before .before .step-rows .ensures) (c .enum-told2 .given .1)
+
+pub entry-core-spec : {M : Type 1} → statement M
+entry-core-spec =
+    tie.close
+    (tie.spec
+    mul-step-rows
+    sub-step-rows
+    mul-step-rows-2
+    shared-slice-read-step-rows
+    step-rows-requires
+    enum-told
+    add-t19
+    add-t20
+    same-length
+    returns
+    enum-told-2
+    same-length-2
+    returns-2)

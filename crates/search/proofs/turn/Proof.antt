@@ -1,0 +1,213 @@
+-- Each branch is one move of the search.
+use mathlib.Core.Path.{sym}
+use native.Mathlib.Omega.{arith}
+use Rattle.search.specs.Turns.Outcome.{gone, got, moved}
+use Rattle.search.proofs.Turning.{arrive, beyond, further, go-on, leads-in, less, no-way, noted-place, pass, stands, step-back, still}
+use borrow.Author.Needs.{needs}
+use Rattle.search.proofs.turn.Statement.{statement}
+use Rattle.search.proofs.turn.Tie as tie
+
+mul-index : tie.Need-mul-index
+mul-index c = omega (arith, stands (c .pre .0) (c .pre .1))
+
+element-copy-out-index : tie.Need-element-copy-out-index
+element-copy-out-index c = omega (arith, stands (c .pre .0) (c .pre .1))
+
+index-requires : tie.Need-index-requires
+index-requires c κs = search needs
+
+add-cur : tie.Need-add-cur
+add-cur c = search needs
+
+cast-cur : tie.Need-cast-cur
+cast-cur c = search needs
+
+mul-cur : tie.Need-mul-cur
+mul-cur c = omega (arith, stands (c .before .before .before .pre .0) (c .before .before .before .pre .1))
+
+element-write-cur : tie.Need-element-write-cur
+element-write-cur c = omega (arith, stands (c .before .before .before .pre .0) (c .before .before .before .pre .1), c .before .before .before .pre .1 .long)
+
+returns : tie.Need-returns
+returns c =
+    let start = c .before .before .before .before in
+    let index = c .before .before .index in
+    record { outcome = gone (no-way (start .pre .0) (start .pre .1) (index .ensures .0) (c .before .if1 .taken) (c .if2 .taken)) (start .pre .1 .deep); further = further (start .pre .0) (start .pre .1) (omega (arith, still (start .pre .0) (start .pre .1))) }
+
+mul-index-2 : tie.Need-mul-index-2
+mul-index-2 c = omega (arith, stands (c .before .before .before .before .pre .0) (c .before .before .before .before .pre .1))
+
+element-copy-out-index-2 : tie.Need-element-copy-out-index-2
+element-copy-out-index-2 c = omega (arith, stands (c .before .before .before .before .pre .0) (c .before .before .before .before .pre .1), c .before .before .before .before .pre .1 .deep)
+
+index-requires-2 : tie.Need-index-requires-2
+index-requires-2 c κs = search needs
+
+sub-p : tie.Need-sub-p
+sub-p c =
+    let start = c .before .before .before .before .before .before in
+    let index = c .before .before .before .before .index in
+    let if1 = c .before .before .before .if1 in
+    let if2 = c .before .before .if2 in
+    noted-place (start .pre .0) (start .pre .1) (index .ensures .0) (if1 .taken) (if2 .left) (c .index2 .ensures .0) .0
+
+element-copy-out-number : tie.Need-element-copy-out-number
+element-copy-out-number c =
+    let start = c .before .before .before .before .before .before in
+    let index = c .before .before .before .before .index in
+    let if1 = c .before .before .before .if1 in
+    let if2 = c .before .before .if2 in
+    omega (arith, noted-place (start .pre .0) (start .pre .1) (index .ensures .0) (if1 .taken) (if2 .left) (c .index2 .ensures .0) .1, start .pre .0 .many)
+
+number-requires : tie.Need-number-requires
+number-requires c κs = search needs
+
+returns-2 : tie.Need-returns-2
+returns-2 c =
+    let start = c .before .before .before .before .before .before .before .before in
+    let index = c .before .before .before .before .before .before .index in
+    let if1 = c .before .before .before .before .before .if1 in
+    let if2 = c .before .before .before .before .if2 in
+    let index2 = c .before .before .index2 in
+    record { outcome = moved (step-back (start .pre .0) (start .pre .1) (index .ensures .0) (if1 .taken) (if2 .left) (index2 .ensures .0) (c .number .ensures .0)); further = further (start .pre .0) (start .pre .1) (omega (arith, still (start .pre .0) (start .pre .1))) }
+
+mul-cur-2 : tie.Need-mul-cur-2
+mul-cur-2 c = search needs
+
+element-copy-out-cur : tie.Need-element-copy-out-cur
+element-copy-out-cur c = omega (arith, less (c .before .before .before .pre .0) (c .before .before .before .pre .1) (c .before .index .ensures .0) (c .if1 .left), c .before .before .before .pre .0 .many)
+
+mul-cur-3 : tie.Need-mul-cur-3
+mul-cur-3 c = omega (arith, stands (c .before .before .before .before .pre .0) (c .before .before .before .before .pre .1))
+
+element-write-cur-2 : tie.Need-element-write-cur-2
+element-write-cur-2 c = omega (arith, stands (c .before .before .before .before .pre .0) (c .before .before .before .before .pre .1), c .before .before .before .before .pre .1 .long)
+
+element-copy-out-number-2 : tie.Need-element-copy-out-number-2
+element-copy-out-number-2 c =
+    let start = c .before .before .before .before in
+    let index = c .before .before .index in
+    omega (arith, less (start .pre .0) (start .pre .1) (index .ensures .0) (c .before .if1 .left), start .pre .0 .many)
+
+number-requires-2 : tie.Need-number-requires-2
+number-requires-2 c κs = search needs
+
+add-via : tie.Need-add-via
+add-via c = search needs
+
+cast-via : tie.Need-cast-via
+cast-via c =
+    let start = c .before .before .before .before .before .before .before in
+    let index = c .before .before .before .before .before .index in
+    let if1 = c .before .before .before .before .if1 in
+    omega (arith, less (start .pre .0) (start .pre .1) (index .ensures .0) (if1 .left), start .pre .0 .many)
+
+mul-via : tie.Need-mul-via
+mul-via c = search needs
+
+element-write-via : tie.Need-element-write-via
+element-write-via c =
+    let start = c .before .before .before .before .before .before .before in
+    let index = c .before .before .before .before .before .index in
+    let if1 = c .before .before .before .before .if1 in
+    omega (arith, leads-in (start .pre .0) (start .pre .1) (index .ensures .0) (if1 .left) (c .before .number2 .ensures .0), start .pre .0 .few, start .pre .1 .deep)
+
+returns-3 : tie.Need-returns-3
+returns-3 c =
+    let start = c .before .before .before .before .before .before .before in
+    let index = c .before .before .before .before .before .index in
+    let if1 = c .before .before .before .before .if1 in
+    let there = arrive (start .pre .0) (start .pre .1) (index .ensures .0) (if1 .left) (c .before .number2 .ensures .0) (c .if3 .taken) in
+    record { outcome = got (there .0) (there .1); further = further (start .pre .0) (start .pre .1) (beyond (start .pre .0) (start .pre .1) (index .ensures .0) (if1 .left)) }
+
+element-copy-out-if4 : tie.Need-element-copy-out-if4
+element-copy-out-if4 c =
+    let start = c .before .before .before .before .before .before .before in
+    let index = c .before .before .before .before .before .index in
+    let if1 = c .before .before .before .before .if1 in
+    omega (arith, leads-in (start .pre .0) (start .pre .1) (index .ensures .0) (if1 .left) (c .before .number2 .ensures .0), start .pre .0 .few, start .pre .1 .wide)
+
+returns-4 : tie.Need-returns-4
+returns-4 c =
+    let start = c .before .before .before .before .before .before .before .before .before in
+    let index = c .before .before .before .before .before .before .before .index in
+    let if1 = c .before .before .before .before .before .before .if1 in
+    let number2 = c .before .before .before .number2 in
+    record { outcome = moved (pass (start .pre .0) (start .pre .1) (index .ensures .0) (if1 .left) (number2 .ensures .0) (c .if4 .taken)); further = further (start .pre .0) (start .pre .1) (beyond (start .pre .0) (start .pre .1) (index .ensures .0) (if1 .left)) }
+
+element-write-seen : tie.Need-element-write-seen
+element-write-seen c =
+    let start = c .before .before .before .before .before .before .before .before .before in
+    let index = c .before .before .before .before .before .before .before .index in
+    let if1 = c .before .before .before .before .before .before .if1 in
+    let number2 = c .before .before .before .number2 in
+    omega (arith, leads-in (start .pre .0) (start .pre .1) (index .ensures .0) (if1 .left) (number2 .ensures .0), start .pre .0 .few, start .pre .1 .wide)
+
+add-via-2 : tie.Need-add-via-2
+add-via-2 c = search needs
+
+cast-via-2 : tie.Need-cast-via-2
+cast-via-2 c =
+    let start = c .before .before .before .before .before .before .before .before .before in
+    let index = c .before .before .before .before .before .before .before .index in
+    let if1 = c .before .before .before .before .before .before .if1 in
+    omega (arith, less (start .pre .0) (start .pre .1) (index .ensures .0) (if1 .left), start .pre .0 .many)
+
+mul-via-2 : tie.Need-mul-via-2
+mul-via-2 c = search needs
+
+element-write-via-2 : tie.Need-element-write-via-2
+element-write-via-2 c =
+    let start = c .before .before .before .before .before .before .before .before .before in
+    let index = c .before .before .before .before .before .before .before .index in
+    let if1 = c .before .before .before .before .before .before .if1 in
+    let number2 = c .before .before .before .number2 in
+    omega (arith, leads-in (start .pre .0) (start .pre .1) (index .ensures .0) (if1 .left) (number2 .ensures .0), start .pre .0 .few, start .pre .1 .deep)
+
+returns-5 : tie.Need-returns-5
+returns-5 c =
+    let start = c .before .before .before .before .before .before .before .before .before in
+    let index = c .before .before .before .before .before .before .before .index in
+    let if1 = c .before .before .before .before .before .before .if1 in
+    let number2 = c .before .before .before .number2 in
+    let if3 = c .before .before .if3 in
+    record { outcome = moved (go-on (start .pre .0) (start .pre .1) (index .ensures .0) (if1 .left) (number2 .ensures .0) (c .if4 .left) (λ z. if3 .left (sym z))); further = further (start .pre .0) (start .pre .1) (beyond (start .pre .0) (start .pre .1) (index .ensures .0) (if1 .left)) }
+
+pub turn-spec : {M : Type 1} → statement M
+turn-spec =
+    tie.close
+    (tie.spec
+    mul-index
+    element-copy-out-index
+    index-requires
+    add-cur
+    cast-cur
+    mul-cur
+    element-write-cur
+    returns
+    mul-index-2
+    element-copy-out-index-2
+    index-requires-2
+    sub-p
+    element-copy-out-number
+    number-requires
+    returns-2
+    mul-cur-2
+    element-copy-out-cur
+    mul-cur-3
+    element-write-cur-2
+    element-copy-out-number-2
+    number-requires-2
+    add-via
+    cast-via
+    mul-via
+    element-write-via
+    returns-3
+    element-copy-out-if4
+    returns-4
+    element-write-seen
+    add-via-2
+    cast-via-2
+    mul-via-2
+    element-write-via-2
+    returns-5)

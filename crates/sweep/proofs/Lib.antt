@@ -1,0 +1,4 @@
+pub mod Lifting
+pub mod Sweeping
+pub mod Among
+pub mod Tries

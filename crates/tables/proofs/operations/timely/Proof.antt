@@ -1,0 +1,21 @@
+-- The two limits of a time, one after the other.
+use Rattle.net.specs.Work.{holds, fails}
+use native.Mathlib.Omega.{arith}
+use borrow.Author.Needs.{needs}
+use Rattle.tables.proofs.operations.timely.Statement.{statement}
+use Rattle.tables.proofs.operations.timely.Tie as tie
+
+time-requires : tie.Need-time-requires
+time-requires c κs = search needs
+
+returns : tie.Need-returns
+returns c = fails (λ h. omega arith)
+
+returns-2 : tie.Need-returns-2
+returns-2 c = fails (λ h. omega arith)
+
+returns-3 : tie.Need-returns-3
+returns-3 c = holds (search needs)
+
+pub timely-spec : {M : Type 1} → statement M
+timely-spec = tie.close (tie.spec time-requires returns returns-2 returns-3)
