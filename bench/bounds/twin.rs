@@ -1,4 +1,4 @@
-// The same code as crates/tbo and crates/circuit in plain Rust, on graphs from standard input: rounds, 1 for the circuit too, then the graphs.
+// The same code as crates/fraction, order, sweep, tbo, tight, search and circuit in plain Rust, on graphs from standard input: rounds, 1 for the circuit too, then the graphs.
 use std::io::Read;
 
 const EDGES: usize = 128;
