@@ -1,16 +1,20 @@
 -- What follows for the exported functions: word and lent memory are determined, and the word can be taken apart again.
-use mathlib.Core.Path.{_≡_, ap, sym, _∙_}
+use mathlib.Core.Path.{_≡_, ap, subst, sym, _∙_}
 use mathlib.Core.List.{List}
 use Prim.Native.Nat.{ℕ, _/_, _%_, _<_, min}
 use native.Mathlib.Omega.{arith}
 use Rattle.reader.specs.declared.graph.Look.{Look}
 use Rattle.reader.proofs.Determined.{look-determined}
 use Rattle.stepping.proofs.Replies.{run-determined, start-determined, step-determined}
-use Rattle.waiting.proofs.Theorems.{wait-determined}
+use Rattle.waiting.specs.declared.reply.Wait.{Wait}
+use Rattle.waiting.specs.declared.reply.Wait.the-variants.{Waits}
+use Rattle.waiting.specs.Reply.{WaitReply}
+use Rattle.waiting.proofs.Theorems.{wait-determined, wait-small}
 use Rattle.bounds.specs.declared.reply.Bounds.{Bounds}
 use Rattle.bounds.proofs.Theorems.{bounds-determined}
 use Rattle.report.proofs.Theorems.{report-determined}
 use Rattle.amg.specs.Calls.{BoundsCall, LookCall, ReportCall, RunCall, StartCall, StepCall, Told, WaitCall}
+use Rattle.amg.specs.Numbers.{waitCount, waitNumber, waitPlace}
 use Rattle.amg.specs.Tables.{Tables, shownIn, valuesIn}
 use Rattle.amg.specs.Word.{word}
 
@@ -54,3 +58,7 @@ module _ (number place count : ℕ) (small : number < 256) (near : place < 65536
 
   pub word-count : word number place count / 1099511627776 ≡ min count 16777215
   word-count = omega arith
+
+-- A wait's word tells the wait itself: it is never cut to the 24 bits.
+pub amg-wait-exact : (f m : List ℕ) (n v w : ℕ) (c : WaitCall f m n v) → c .reply ≡ Waits w → v / 1099511627776 ≡ w
+amg-wait-exact f m n v w c e = omega (arith, c .told, ap (λ (r : Wait). word (waitNumber r) (waitPlace r) (waitCount r)) e, wait-small f m n w (subst (WaitReply f m n) e (c .allowed)))

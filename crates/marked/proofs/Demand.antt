@@ -1,20 +1,26 @@
 -- Demand 3 leaves no freedom: one number meets it, and it is found at every marking that a live one reaches.
 use mathlib.Core.Path.{_≡_, refl, sym}
 use mathlib.Core.List.{List, [], _++_, _∷_}
-use Prim.Native.Nat.{_≤_, suc, zero, ℕ}
+use Prim.Native.Nat.{_*_, _<_, _≤_, suc, zero, ℕ}
 use native.Mathlib.Decide.{ℕ-discrete}
+use native.Mathlib.Nat.{mul-le-mul-right}
 use native.Mathlib.Omega.{arith}
 use lib.ListN.{length, length-append}
 use Rattle.marked.specs.Net.{Net, Proper}
-use Rattle.marked.specs.Circuits.{Live}
+use Rattle.marked.specs.Circuits.{Live, froms}
+use Rattle.marked.specs.Distance.{Least}
 use Rattle.marked.specs.Firing.{Fires, Reaches, Same, count, still, then}
 use Rattle.marked.specs.Wait.{WaitSum, Waits, others, unless}
 use Rattle.marked.proofs.Hits.{hit-other}
-use Rattle.marked.proofs.Tallies.{count-append, upto-same}
+use Rattle.marked.proofs.Tallies.{count-append, upto-most, upto-same}
 use Rattle.marked.proofs.Least.{least-same, least-unique}
 use Rattle.marked.proofs.Alive.{live-fires}
 use Rattle.marked.proofs.Fired.{after, fire-after, fires-join}
-use Rattle.marked.proofs.Wait.{wait-demand}
+use Rattle.marked.proofs.Pigeonhole.{pigeonhole}
+use Rattle.marked.proofs.Shorten.{shorten}
+use Rattle.marked.proofs.Sizes.{walk-most}
+use Rattle.marked.proofs.Walks.{froms-in, length-froms}
+use Rattle.marked.proofs.Wait.{others-all, wait-demand}
 
 -- Demand 3 at every marking that a live one reaches.
 pub wait-reached : {g : Net} {m n : ℕ → ℕ} {t w : ℕ} → Proper g → Live g m → Reaches g m n → WaitSum g n t w → Waits g n t w
@@ -66,3 +72,17 @@ no-longer {w} x y = let r = run x w (omega arith) in omega (arith, y .most (r .e
 -- Two numbers that meet demand 3 are the same.
 pub waits-unique : {g : Net} {m : ℕ → ℕ} {t w v : ℕ} → Waits g m t w → Waits g m t v → w ≡ v
 waits-unique x y = omega (arith, no-longer x y, no-longer y x)
+
+-- How long a wait can be, where a net has at most n transitions and each place at most k tokens.
+module _ {g : Net} (ok : Proper g) {m : ℕ → ℕ} (n k : ℕ) (few : g .transitions ≤ n) (low : (p : ℕ) → p < g .places → m p ≤ k) where
+  -- The fewest tokens stand on a walk that comes to no transition twice,
+  least-most : {t u d : ℕ} → Least g m t u d → d ≤ n * k
+  least-most l =
+      let s = shorten g (l .walk) in
+      let short : length (s .way) ≤ n = omega (arith, pigeonhole (g .transitions) (froms g (s .way)) (froms-in ok (s .walk)) (s .simple .1), length-froms g (s .way)) in
+      omega (arith, l .least (s .way) (s .walk), walk-most m k low (s .walk), mul-le-mul-right k short)
+
+  -- so the sum of them is no more than this.
+  pub wait-most : {t w : ℕ} → WaitSum g m t w → w ≤ n * (n * k)
+  wait-most x =
+      omega (arith, x .adds, others-all (x .each), upto-most (x .fewest) (n * k) (g .transitions) (λ u l. least-most (x .each u l)), mul-le-mul-right (n * k) few)

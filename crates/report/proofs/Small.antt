@@ -5,17 +5,12 @@ use native.Mathlib.Nat.{le-of-mul-le-mul-right, mul-le-mul-right}
 use native.Mathlib.Omega.{arith}
 use lib.ListN.{length}
 use Rattle.marked.specs.Net.{Net, Proper, Walk, lasts, tokens}
-use Rattle.marked.specs.Circuits.{Circuit, froms}
-use Rattle.marked.specs.Distance.{Least}
+use Rattle.marked.specs.Circuits.{Circuit}
 use Rattle.marked.specs.Bounds.{Largest, Reduced}
 use Rattle.marked.specs.Wait.{WaitSum}
+use Rattle.marked.proofs.Demand.{wait-most}
 use Rattle.marked.proofs.Entries.{all-at}
-use Rattle.marked.proofs.Pigeonhole.{pigeonhole}
-use Rattle.marked.proofs.Shorten.{shorten}
 use Rattle.marked.proofs.Sizes.{circuit-length, walk-most, walk-places}
-use Rattle.marked.proofs.Tallies.{upto-most}
-use Rattle.marked.proofs.Wait.{others-all}
-use Rattle.marked.proofs.Walks.{froms-in, length-froms}
 use Rattle.net.specs.Graph.{netOf, startOf}
 use Rattle.net.proofs.Shapes.{limited-proper}
 use Rattle.reader.specs.Accepted.{Accepted}
@@ -61,17 +56,9 @@ module _ {g : Graph} (ok : Accepted g) where
       let up : a ≤ t = le-of-mul-le-mul-right {k = m} (omega (arith, l .attains, mul-le-mul-right t low)) some in
       (omega (arith, ring-lasts c), omega (arith, few (c .walk), ring-length c))
 
-  -- The fewest tokens stand on a walk that comes to no transition twice.
-  least-small : {t u d : ℕ} → Least net start t u d → d ≤ 976
-  least-small l =
-      let s = shorten net (l .walk) in
-      let w = pigeonhole (net .transitions) (froms net (s .way)) (froms-in proper (s .walk)) (s .simple .1) in
-      omega (arith, l .least (s .way) (s .walk), few (s .walk), w, length-froms net (s .way), ok .limited .operations)
-
-  -- So a wait is short.
-  wait-small : {t w : ℕ} → WaitSum net start t w → w ≤ 122 * 976
-  wait-small x =
-      omega (arith, x .adds, others-all (x .each), upto-most (x .fewest) 976 (net .transitions) (λ u l. least-small (x .each u l)), ok .limited .operations)
+  -- A wait is short.
+  wait-small : {t w : ℕ} → WaitSum net start t w → w ≤ 122 * (122 * 8)
+  wait-small x = wait-most proper 122 8 (omega (arith, ok .limited .operations)) (sized-few (accepted-ready ok .sized)) x
 
   module _ {a b x y z : ℕ} {ring : List ℕ} {wait : ℕ → ℕ} (r : Numbers (shown g) a b x y z ring wait) where
     limited : Limited (g .operations) (g .edges) a b x y z ring wait

@@ -1,10 +1,11 @@
--- The wait's reply is one, is blind to labels, and answers demand 3.
+-- The wait's reply is one, is blind to labels, answers demand 3, and is short.
 use mathlib.Core.Path.{_≡_, ap, refl, subst}
 use mathlib.Core.List.{List}
-use Prim.Native.Nat.{ℕ}
+use Prim.Native.Nat.{_≤_, ℕ}
+use native.Mathlib.Omega.{arith}
 use Rattle.marked.specs.Net.{at}
 use Rattle.marked.specs.Wait.{Waits as Demand}
-use Rattle.marked.proofs.Demand.{wait-reached, wait-sum-unique, waits-unique}
+use Rattle.marked.proofs.Demand.{wait-most, wait-reached, wait-sum-unique, waits-unique}
 use Rattle.net.specs.Graph.{netOf}
 use Rattle.net.proofs.Shapes.{limited-proper}
 use Rattle.reader.specs.Reply.{LookReply, shown}
@@ -43,3 +44,12 @@ answers {f} {m} {t} {w} l p (passed {r = r} q e s) (waits x) =
 -- Demand 3, end to end: the number that `wait` returns meets all three sentences about all firing sequences of look's graph, and is the only one that does.
 pub wait-answers-demand : (f m : List ℕ) (t w : ℕ) (l : Look) → LookReply f l → WaitReply f m t (Waits w) → Demanded (l .graph) m t w
 wait-answers-demand f m t w l p r = answers l p (r .ends) (r .replies)
+
+small : {f m : List ℕ} {t w : ℕ} {o : Outcome} → Ends f (waitRows m t) o → Replies m t o (Waits w) → w ≤ 14884
+small {f} (passed {r = r} q e s) (waits x) =
+    let a = look-accepted f r e q in
+    wait-most (limited-proper (a .limited)) 122 1 (omega (arith, a .limited .operations)) (s .kept 10 0 refl .single) x
+
+-- No wait is longer than 122 · 122 firings.
+pub wait-small : (f m : List ℕ) (t w : ℕ) → WaitReply f m t (Waits w) → w ≤ 14884
+wait-small f m t w r = small (r .ends) (r .replies)
