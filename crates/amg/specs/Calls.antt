@@ -25,23 +25,30 @@ pub record Told {A : Type 0} (wordOf : A → ℕ) (Allowed : A → Type 0) (w : 
   pub allowed : Allowed reply
   pub told : w ≡ wordOf reply
 
+-- `amg_look` of a file: the arrays before, the word, and the arrays after.
 abbrev pub LookCall : List ℕ → Tables → ℕ → Tables → Type 0
 LookCall f before w after = Told (λ (r : Look). word (lookNumber (r .verdict)) (lookPlace (r .verdict)) 0) (λ (r : Look). LookReply f r × (after ≡ shownIn (r .verdict) (r .graph) before)) w
 
+-- `amg_start` of a file: the marking before, the word, and the marking after.
 abbrev pub StartCall : List ℕ → List ℕ → ℕ → List ℕ → Type 0
 StartCall f before w after = Told (λ (r : Start). word (startNumber r) (startPlace r) 0) (λ (r : Start). StartReply f before r after) w
 
+-- `amg_step` of a file: the marking before, the transition, the word, and the marking after.
 abbrev pub StepCall : List ℕ → List ℕ → ℕ → ℕ → List ℕ → Type 0
 StepCall f before t w after = Told (λ (r : Answer). word (stepNumber r) (stepPlace r) 0) (λ (r : Answer). StepReply f before t r after) w
 
+-- `amg_run` of a file: the marking before, the list, the word with the firings, and the marking after.
 abbrev pub RunCall : List ℕ → List ℕ → List ℕ → ℕ → List ℕ → Type 0
 RunCall f before list w after = Told (λ (r : Ran). word (stepNumber (r .answer)) (stepPlace (r .answer)) (r .fired)) (λ (r : Ran). RunReply f before list r after) w
 
+-- `amg_wait` of a file, a marking and a transition: the word with the wait.
 abbrev pub WaitCall : List ℕ → List ℕ → ℕ → ℕ → Type 0
 WaitCall f m t w = Told (λ (r : Wait). word (waitNumber r) (waitPlace r) (waitCount r)) (λ (r : Wait). WaitReply f m t r) w
 
+-- `amg_bounds` of a file: the circuit buffer and the five values before, the word with the circuit's length, and both after.
 abbrev pub BoundsCall : List ℕ → List ℕ → List ℕ → ℕ → List ℕ → List ℕ → Type 0
 BoundsCall f before values w after values′ = Told (λ (r : Bounds). word (boundsNumber r) (boundsPlace r) (boundsCount r)) (λ (r : Bounds). BoundsReply f before r after × (values′ ≡ valuesIn r values)) w
 
+-- `amg_report` of a file: the buffer before, the word with the text's length, and the buffer after.
 abbrev pub ReportCall : List ℕ → List ℕ → ℕ → List ℕ → Type 0
 ReportCall f before w after = Told (λ (r : Report). word (reportNumber r) (reportPlace r) (reportCount r)) (λ (r : Report). ReportReply f before r after) w

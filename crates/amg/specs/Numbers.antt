@@ -9,50 +9,57 @@ use Rattle.bounds.specs.declared.reply.Bounds.the-variants.{Bounded, Refused as
 use Rattle.report.specs.declared.reply.Report.{Report}
 use Rattle.report.specs.declared.reply.Report.the-variants.{Refused as ReportRefused, Written}
 
--- Look.
+-- Look's number.
 abbrev pub lookNumber : Verdict → ℕ
 lookNumber Accepted = 0
 lookNumber (LookRefused number place) = number
 
+-- Look's place.
 abbrev pub lookPlace : Verdict → ℕ
 lookPlace Accepted = 0
 lookPlace (LookRefused number place) = place
 
--- Wait; its count is the wait.
+-- Wait's number.
 abbrev pub waitNumber : Wait → ℕ
 waitNumber (Waits firings) = 0
 waitNumber (WaitRefused number place) = number
 
+-- Wait's place.
 abbrev pub waitPlace : Wait → ℕ
 waitPlace (Waits firings) = 0
 waitPlace (WaitRefused number place) = place
 
+-- Wait's count: the wait.
 abbrev pub waitCount : Wait → ℕ
 waitCount (Waits firings) = firings
 waitCount (WaitRefused number place) = 0
 
--- Bounds; its count is the circuit's length.
+-- Bounds' number.
 abbrev pub boundsNumber : Bounds → ℕ
 boundsNumber (Bounded a b tbio tt tce len) = 0
 boundsNumber (BoundsRefused number place) = number
 
+-- Bounds' place.
 abbrev pub boundsPlace : Bounds → ℕ
 boundsPlace (Bounded a b tbio tt tce len) = 0
 boundsPlace (BoundsRefused number place) = place
 
+-- Bounds' count: the circuit's length.
 abbrev pub boundsCount : Bounds → ℕ
 boundsCount (Bounded a b tbio tt tce len) = len
 boundsCount (BoundsRefused number place) = 0
 
--- Report; its count is the text's length, a refusal's line too.
+-- Report's number.
 abbrev pub reportNumber : Report → ℕ
 reportNumber (Written len) = 0
 reportNumber (ReportRefused number place len) = number
 
+-- Report's place.
 abbrev pub reportPlace : Report → ℕ
 reportPlace (Written len) = 0
 reportPlace (ReportRefused number place len) = place
 
+-- Report's count: the text's length, a refusal's line too.
 abbrev pub reportCount : Report → ℕ
 reportCount (Written len) = len
 reportCount (ReportRefused number place len) = len

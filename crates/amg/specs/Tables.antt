@@ -15,6 +15,7 @@ pub record Tables : Type 0 where
   pub to : List ℕ
   pub mark : List ℕ
 
+-- The five as one.
 abbrev pub tables : List ℕ → List ℕ → List ℕ → List ℕ → List ℕ → Tables
 tables counts times from to mark = record { counts = counts; times = times; from = from; to = to; mark = mark }
 

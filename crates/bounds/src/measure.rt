@@ -11,7 +11,7 @@ ghost use lib.ListN.{length};
 ghost use Rattle.net.specs.Plan.{rows};
 ghost use Rattle.bounds.specs.Work.{Measured, Ready};
 
-// TBO is numerator / denominator in lowest terms; length is how many places its circuit has.
+// What `Bounded` tells, for callers that have tested the room.
 pub struct Measures {
     pub numerator: u64,
     pub denominator: u64,

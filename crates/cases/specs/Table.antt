@@ -18,10 +18,11 @@ pub data Case : Type 0 where
 abbrev pub True : Case → Type 0
 True (case times edges said) = Every (Holds (fileOf times edges)) said
 
--- The graphs of P1 and P2, of which P8 and P7 speak too.
+-- The graph of P1, of which P8 speaks too.
 abbrev pub P1 : List Said → Case
 P1 = case (5 ∷ []) (plain 0 1 ∷ plain 1 2 ∷ [])
 
+-- The graph of P2, of which P7 speaks too.
 abbrev pub P2 : List Said → Case
 P2 = case (3 ∷ 4 ∷ []) (plain 0 1 ∷ plain 1 2 ∷ star 2 1 ∷ plain 2 3 ∷ [])
 

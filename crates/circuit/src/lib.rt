@@ -5,6 +5,7 @@ use net::EDGES;
 use net::OPERATIONS;
 use net::PLACES;
 use net::TRANSITIONS;
+use tight::LOOSE;
 ghost use Prim.Native.Nat.{_+_, _*_, _≤_};
 ghost use lib.ListN.{length};
 ghost use Rattle.net.specs.Plan.{rows};
@@ -37,7 +38,7 @@ pub fn choose(
     let mut head = [np as u16; TRANSITIONS];
     let mut next = [0u16; PLACES];
     let mut src = [0u8; PLACES];
-    let mut dst = [122u8; PLACES];
+    let mut dst = [LOOSE; PLACES];
     tight::list_tight(
         n,
         e,

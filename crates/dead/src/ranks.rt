@@ -10,7 +10,7 @@ ghost use lib.ListN.{length};
 ghost use Rattle.net.specs.Valid.{Lent};
 ghost use Rattle.dead.specs.Climb.{Climbed, Passes, Raised};
 
-// One place, from s to t: while it is empty, t ranks above s. The answer is whether a rank was raised, now or before.
+// One place, from s to t: while it is empty, t ranks above s. The answer is true where a rank was raised, now or before, or should be and cannot.
 fn raise(s: usize, t: usize, tokens: u8, rank: &mut [u8; TRANSITIONS], before: bool) -> bool
     requires { ⌜ (s < 122) × (t < 122) ⌝ }
     ensures { λ r. ⌜ Raised s t tokens (now (rank .entry)) before (now (rank .exit)) r ⌝ }

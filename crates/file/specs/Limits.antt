@@ -1,4 +1,4 @@
--- The limits of a graph (document 01, "What a graph is here"), each stated once.
+-- The limits of a graph (document 01, "What a graph is here"): what the refusals test.
 use Prim.Native.Nat.{ℕ, _≤_}
 
 -- n lies from low to high.

@@ -2,6 +2,7 @@
 use crate::LENGTH;
 use crate::MAGIC;
 use crate::SHORTEST;
+use crate::TRAILER;
 use little::byte;
 use little::word;
 use net::EDGES;
@@ -19,7 +20,8 @@ pub struct Trailer {
     pub back: usize,
 }
 
-pub fn sized(file: &[u8]) -> bool
+// Row 1: the length is within its limits.
+fn sized(file: &[u8]) -> bool
     ensures { λ r. ⌜ Says (Sized (now (file .entry))) r ⌝ }
 {
     if file.len() < SHORTEST {
@@ -31,11 +33,12 @@ pub fn sized(file: &[u8]) -> bool
     true
 }
 
+// The trailer's five numbers.
 pub fn numbers(file: &[u8]) -> Trailer
     requires { ⌜ Sized (now file) ⌝ }
     ensures { λ r. ⌜ TrailerOf (now (file .entry)) r ⌝ }
 {
-    let at = file.len() - SHORTEST;
+    let at = file.len() - TRAILER;
     Trailer {
         optable: word(file, at) as usize,
         operations: word(file, at + 2) as usize,
@@ -61,11 +64,12 @@ fn ends(file: &[u8]) -> bool
     true
 }
 
-pub fn signed(file: &[u8]) -> bool
+// Row 2: layout 1, a zero byte, and AMG1.
+fn signed(file: &[u8]) -> bool
     requires { ⌜ Sized (now file) ⌝ }
     ensures { λ r. ⌜ Says (Signed (now (file .entry))) r ⌝ }
 {
-    let at = file.len() - SHORTEST;
+    let at = file.len() - TRAILER;
     if byte(file, at + 10) != 1 {
         return false;
     }
@@ -75,7 +79,8 @@ pub fn signed(file: &[u8]) -> bool
     ends(file)
 }
 
-pub fn counted(file: &[u8]) -> bool
+// Row 3: N and E are within their limits.
+fn counted(file: &[u8]) -> bool
     requires { ⌜ Sized (now file) ⌝ }
     ensures { λ r. ⌜ Says (Counted (now (file .entry))) r ⌝ }
 {
@@ -95,14 +100,14 @@ pub fn counted(file: &[u8]) -> bool
     true
 }
 
-// The tables are never empty, so the one that comes first stands at 0 and the other right behind it.
-pub fn laid(file: &[u8]) -> bool
+// Row 4. The tables are never empty, so the one that comes first stands at 0 and the other right behind it.
+fn laid(file: &[u8]) -> bool
     requires { ⌜ Sized (now file) ⌝ }
     requires { ⌜ Counted (now file) ⌝ }
     ensures { λ r. ⌜ Says (Laid (now (file .entry))) r ⌝ }
 {
     let t = numbers(file);
-    let before = file.len() - SHORTEST;
+    let before = file.len() - TRAILER;
     let operations = 12 * t.operations;
     let edges = 4 * t.edges;
     if t.back != before {

@@ -1,9 +1,13 @@
 // A file: where its numbers stand, the table of refusals, and its frame, rows 1 to 4.
 pub mod frame;
 
-// The shortest file is a trailer alone, and too short for a table.
-pub const SHORTEST: usize = 16;
+// A file ends with its trailer.
+pub const TRAILER: usize = 16;
 
+// The shortest file is a trailer alone, and too short for a table.
+pub const SHORTEST: usize = TRAILER;
+
+// The longest file.
 pub const LENGTH: usize = 2048;
 
 // The last bytes of a file.

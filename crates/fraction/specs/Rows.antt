@@ -11,7 +11,7 @@ pub record Sized (n e : ℕ) (times from to mark : List ℕ) : Type 0 where
   pub short : (i : ℕ) → i < n → at times i ≤ 1000000
   pub single : (k : ℕ) → k < e → at mark k ≤ 1
 
--- a / b is the time and the tokens of a closed walk of 122 places at most, with room for three times an operation and eight tokens a place.
+-- a is at most 1,000,000,000 and b at most 1,000: room for the time and the tokens of a closed walk of 122 places, with three times an operation and eight tokens a place.
 pub record Pair (a b : ℕ) : Type 0 where
   pub up : a ≤ 1000000000
   pub down : b ≤ 1000

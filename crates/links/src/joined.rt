@@ -62,6 +62,7 @@ fn reach(e: usize, from: &[u8; EDGES], to: &[u8; EDGES]) -> [u8; NODES]
     seen
 }
 
+// The lowest node that is not joined to the source.
 pub fn first_apart<'a>(n: usize, e: usize, from: &'a [u8; EDGES], to: &'a [u8; EDGES]) -> Found
     requires { ⌜ Valid n e (now from) (now to) ⌝ }
     ensures { λ r. ⌜ Finds (each (Node (wires n e (now (from .entry)) (now (to .entry)))) (Joined (wires n e (now (from .entry)) (now (to .entry))))) r ⌝ }

@@ -11,6 +11,7 @@ ghost use Rattle.net.specs.Work.{Says};
 ghost use Rattle.file.specs.Work.{Finds};
 ghost use Rattle.links.specs.Work.{Roomy, Ticks, Bound, wires};
 
+// A node's byte as an index.
 pub fn wide(x: u8) -> usize
     ensures { λ r. ⌜ r ≡ x ⌝ }
 {
@@ -49,6 +50,7 @@ fn bound(n: usize, node: usize, out: u8, into: u8) -> bool
     into == 1
 }
 
+// The lowest node that lacks an edge out or in.
 pub fn first_bare<'a>(n: usize, e: usize, from: &'a [u8; EDGES], to: &'a [u8; EDGES]) -> Found
     requires { ⌜ Valid n e (now from) (now to) ⌝ }
     ensures { λ r. ⌜ Finds (each (Node (wires n e (now (from .entry)) (now (to .entry)))) (Linked (wires n e (now (from .entry)) (now (to .entry))))) r ⌝ }

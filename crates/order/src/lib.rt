@@ -40,7 +40,7 @@ fn item(n: usize, e: usize, i: usize) -> u8
     if i < e {
         return i as u8;
     }
-    (i - e + 128) as u8
+    (i - e + EDGES) as u8
 }
 
 // Where the item's places without a token come from: an operation's from its read, an unmarked edge's from a write, a marked edge's from a read.
@@ -56,8 +56,8 @@ fn gate(
     requires { ⌜ Item n e x ⌝ }
     ensures { λ r. ⌜ r < 122 ⌝ }
 {
-    if x >= 128 {
-        return 3 * (x - 128) + 1;
+    if x >= EDGES {
+        return 3 * (x - EDGES) + 1;
     }
     if mark[x] == 0 {
         return ends::write_of(from[x]);
@@ -78,8 +78,8 @@ fn goal(
     requires { ⌜ Item n e x ⌝ }
     ensures { λ r. ⌜ r < 122 ⌝ }
 {
-    if x >= 128 {
-        return 3 * (x - 128) + 3;
+    if x >= EDGES {
+        return 3 * (x - EDGES) + 3;
     }
     if mark[x] == 0 {
         return ends::read_of(to[x]);

@@ -9,6 +9,7 @@ ghost use Rattle.file.specs.Rows.{Transition, Alive};
 ghost use Rattle.file.specs.Work.{Finds};
 ghost use Rattle.reader.specs.Work.{tokened};
 
+// The start is made here, since look hands out none.
 pub fn first_dead<'a>(
     n: usize,
     e: usize,

@@ -16,6 +16,7 @@ pub struct Graph {
     pub mark: [u8; Graph::EDGES],
 }
 
+// Whether a file is accepted; if not, the refusal's number and place.
 pub enum Verdict {
     Accepted,
     Refused { number: u8, place: u16 },
@@ -28,10 +29,20 @@ pub struct Look {
 }
 
 impl Graph {
+    // The most operations, and the most edges.
     pub const OPERATIONS: usize = net::OPERATIONS;
 
     pub const EDGES: usize = net::EDGES;
 
+    // The longest time of an operation.
+    pub const TIME: u32 = tables::TIME;
+
+    // The shortest file, and the longest.
+    pub const SHORTEST: usize = file::SHORTEST;
+
+    pub const LENGTH: usize = file::LENGTH;
+
+    // The graph of a file, where every row of the refusal table is kept.
     pub fn from_file(file: &[u8]) -> Look
         ensures { λ r. ⌜ LookReply (now (file .entry)) r ⌝ }
     {

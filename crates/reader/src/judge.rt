@@ -12,6 +12,7 @@ ghost use Rattle.file.specs.File.{operationsOf, edgesOf, planOf};
 ghost use Rattle.reader.specs.Reply.{Shows, Judged};
 ghost use Rattle.file.specs.Work.{Opened};
 
+// The lowest of rows 5 to 9 that is broken, or accepted.
 pub fn judge(file: &[u8], t: Trailer, g: Graph) -> Verdict
     requires { ⌜ Opened (now file) t ⌝ }
     requires { ⌜ Shows (planOf (now file)) (operationsOf (now file)) (edgesOf (now file)) g ⌝ }

@@ -8,6 +8,7 @@ ghost use Rattle.file.specs.File.{operationsOf, edgesOf, planOf};
 ghost use Rattle.reader.specs.Reply.{Shows};
 ghost use Rattle.file.specs.Work.{Opened};
 
+// What the two tables hold.
 pub fn read(file: &[u8], t: Trailer) -> Graph
     requires { ⌜ Opened (now file) t ⌝ }
     ensures { λ r. ⌜ Shows (planOf (now (file .entry))) (operationsOf (now (file .entry))) (edgesOf (now (file .entry))) r ⌝ }
@@ -26,6 +27,7 @@ pub fn read(file: &[u8], t: Trailer) -> Graph
     }
 }
 
+// All zero.
 pub fn blank() -> Graph
     ensures { λ r. ⌜ ((p : Plan) → Shows p 0 0 r) ⌝ }
 {

@@ -57,8 +57,8 @@ module _ {g : Graph} (ok : Accepted g) where
       (omega (arith, ring-lasts c), omega (arith, few (c .walk), ring-length c))
 
   -- A wait is short.
-  wait-small : {t w : ℕ} → WaitSum net start t w → w ≤ 122 * (122 * 8)
-  wait-small x = wait-most proper 122 8 (omega (arith, ok .limited .operations)) (sized-few (accepted-ready ok .sized)) x
+  start-wait-small : {t w : ℕ} → WaitSum net start t w → w ≤ 122 * (122 * 8)
+  start-wait-small x = wait-most proper 122 8 (omega (arith, ok .limited .operations)) (sized-few (accepted-ready ok .sized)) x
 
   module _ {a b x y z : ℕ} {ring : List ℕ} {wait : ℕ → ℕ} (r : Numbers (shown g) a b x y z ring wait) where
     limited : Limited (g .operations) (g .edges) a b x y z ring wait
@@ -75,7 +75,7 @@ module _ {g : Graph} (ok : Accepted g) where
           tce = omega arith;
           circuit = ring-length (r .circuit .circuit);
           places = λ i l. omega (arith, all-at (_< net .places) ring i (walk-places (r .circuit .circuit .walk)) l, ok .limited .operations, ok .limited .edges);
-          waited = λ t l. omega (arith, wait-small (r .waits t l));
+          waited = λ t l. omega (arith, start-wait-small (r .waits t l));
         }
 
     -- The report of every accepted graph fits.

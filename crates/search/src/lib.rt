@@ -3,12 +3,14 @@ use fraction::widen::index;
 use fraction::widen::number;
 use net::PLACES;
 use net::TRANSITIONS;
+use tight::LOOSE;
 ghost use mathlib.Core.Path.{_≡_};
 ghost use Prim.Native.Nat.{_+_, _<_};
 ghost use lib.ListN.{length};
 ghost use Rattle.tight.specs.Lists.{Headed, Linked, Listed};
 ghost use Rattle.search.specs.Turns.{Lowest, Sought, Tried, Turned, Under};
 
+// What a move leads to: another transition, the goal, or nowhere.
 pub enum Move {
     At(usize),
     Reached,
@@ -122,7 +124,7 @@ fn returns_to(
     requires { ⌜ (p < np) × (length (now via) ≡ 122) ⌝ }
     ensures { λ r. ⌜ Tried nt np (now (src .entry)) (now (dst .entry)) p (now (via .exit)) r ⌝ }
 {
-    if dst[p] == 122 {
+    if dst[p] == LOOSE {
         return false;
     }
     search(nt, np, head, next, src, dst, p, via)

@@ -25,6 +25,7 @@ pub fn start_graph(n: usize, e: usize, mark: &[u8; EDGES], marking: &mut [u8]) -
     Start::Started
 }
 
+// The marking is accepted before the transition is tried.
 pub fn step_graph<'a>(
     n: usize,
     e: usize,
@@ -45,6 +46,7 @@ pub fn step_graph<'a>(
     step_rows(n, e, from, to, marking, transition)
 }
 
+// The marking is accepted once, before the first entry.
 pub fn run_graph<'a>(
     n: usize,
     e: usize,

@@ -3,11 +3,13 @@ use firing::step::Answer;
 ghost use mathlib.Core.Path.{_≡_};
 ghost use Rattle.stepping.specs.Numbers.{startNumber, startPlace, stepNumber, stepPlace};
 
+// The start is written, or a refusal is given.
 pub enum Start {
     Started,
     Refused { number: u8, place: u16 },
 }
 
+// 0 where the call is done.
 pub fn start_number(a: Start) -> u8
     ensures { λ r. ⌜ r ≡ startNumber a ⌝ }
 {

@@ -113,8 +113,8 @@ fn raise_item(
     requires { ⌜ Room 1500000000000000000 (now d) (now pred) ⌝ }
     ensures { λ r. ⌜ Swepts (rows n e (now (times .entry)) (now (from .entry)) (now (to .entry)) (now (mark .entry))) a b (Of n x) 3 (now (d .entry)) (now (pred .entry)) (now (d .exit)) (now (pred .exit)) last r ⌝ }
 {
-    if x >= 128 {
-        return raise_op(n, x - 128, times, a, b, d, pred, last);
+    if x >= EDGES {
+        return raise_op(n, x - EDGES, times, a, b, d, pred, last);
     }
     raise_edge(n, e, x, from, to, mark, a, d, pred, last)
 }

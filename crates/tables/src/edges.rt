@@ -48,6 +48,7 @@ fn allowed(file: &[u8], t: Trailer, e: usize) -> bool
     true
 }
 
+// Row 6: the lowest edge whose bytes are not allowed.
 pub fn first_wrong(file: &[u8], t: Trailer) -> Found
     requires { ⌜ Opened (now file) t ⌝ }
     ensures { λ r. ⌜ Finds (row (table (now (file .entry))) 6) r ⌝ }

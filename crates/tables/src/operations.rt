@@ -38,6 +38,7 @@ fn timely(file: &[u8], t: Trailer, i: usize) -> bool
     true
 }
 
+// Row 5: the lowest operation whose time is outside its limits.
 pub fn first_late(file: &[u8], t: Trailer) -> Found
     requires { ⌜ Opened (now file) t ⌝ }
     ensures { λ r. ⌜ Finds (row (table (now (file .entry))) 5) r ⌝ }

@@ -11,6 +11,7 @@ ghost use Rattle.order.specs.Items.{Ordered};
 ghost use Rattle.sweep.specs.Raises.{Level};
 ghost use Rattle.tbo.specs.Judged.{Judged};
 
+// A certificate, or the time and the tokens of a closed walk that has more.
 pub enum Found {
     Certified,
     Better(u64, u64),
@@ -35,6 +36,7 @@ pub fn improve(
     ensures { λ r. ⌜ Judged (rows n e (now (times .entry)) (now (from .entry)) (now (to .entry)) (now (mark .entry))) a b (now (d .exit)) r ⌝ }
 {
     let mut pred = [0u16; TRANSITIONS];
+    // The proof that the sweeps end counts them.
     let mut k: usize = 0;
     loop {
         let v = sweep::sweep(n, e, times, from, to, mark, ord, a, b, d, &mut pred);

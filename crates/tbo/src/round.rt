@@ -84,6 +84,7 @@ pub fn go_round(
     let mut x = w;
     let mut t: u64 = 0;
     let mut m: u64 = 0;
+    // The proof that the walk comes back counts its steps.
     let mut k: usize = 0;
     loop {
         let p = index(pred[x]) - 1;

@@ -13,6 +13,9 @@ ghost use Rattle.net.specs.Valid.{Valid};
 ghost use Rattle.fraction.specs.Rows.{Pair, Sized};
 ghost use Rattle.tight.specs.Lists.{Drawn, Lengthened, Whole};
 
+// The target of a place that is not listed: no transition has this number.
+pub const LOOSE: u8 = TRANSITIONS as u8;
+
 // The place p from s to t: where it is tight it becomes the first of the places that leave s.
 fn list_place(
     d: &[u64; TRANSITIONS],
