@@ -9,7 +9,8 @@
  *   bits  0 to  7   the refusal's number, 0 where the call is done
  *   bits  8 to 23   the refusal's place
  *   bits 24 to 39   0
- *   bits 40 to 63   the count: firings, wait, circuit length or bytes; 16,777,215 stands for itself and all above
+ *   bits 40 to 63   the count: firings, wait, circuit length or bytes, else 0 (a refusal has 0, but for a run stopped by
+ *                   12 or 13 and a report's one line); 16,777,215 stands for itself and all above
  */
 #ifndef AMG_H
 #define AMG_H
