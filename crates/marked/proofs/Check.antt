@@ -20,8 +20,8 @@ module _ (g : Net) where
       (each? (λ p. both? (lt? (g .src p) (g .transitions)) (lt? (g .dst p) (g .transitions))) (g .places))
 
   -- Whether D certifies a / b.
-  abbrev pub certifies? : (m : ℕ → ℕ) (a b : ℕ) (D : ℕ → ℕ) → Dec (Certifies g m a b D)
-  certifies? m a b D = each? (λ p. le? (D (g .src p) + b * g .time (g .src p)) (D (g .dst p) + a * m p)) (g .places)
+  abbrev pub certifies? : (m time : ℕ → ℕ) (a b : ℕ) (D : ℕ → ℕ) → Dec (Certifies g m time a b D)
+  certifies? m time a b D = each? (λ p. le? (D (g .src p) + b * time (g .src p)) (D (g .dst p) + a * m p)) (g .places)
 
   -- Whether no place leads to a lower value of d.
   abbrev pub settled? : (m d : ℕ → ℕ) → Dec (Settled g m d)

@@ -10,7 +10,7 @@ use Rattle.marked.specs.Net.{Net, Proper}
 use Rattle.marked.specs.Circuits.{Live, froms}
 use Rattle.marked.specs.Distance.{Least}
 use Rattle.marked.specs.Firing.{Fires, Reaches, Same, count, still, then}
-use Rattle.marked.specs.Wait.{WaitSum, Waits, others, unless}
+use Rattle.marked.specs.Wait.{WaitSum, Demand3, others, unless}
 use Rattle.marked.proofs.Hits.{hit-other}
 use Rattle.marked.proofs.Tallies.{count-append, upto-most, upto-same}
 use Rattle.marked.proofs.Least.{least-same, least-unique}
@@ -23,7 +23,7 @@ use Rattle.marked.proofs.Walks.{froms-in, length-froms}
 use Rattle.marked.proofs.Wait.{others-all, wait-demand}
 
 -- Demand 3 at every marking that a live one reaches.
-pub wait-reached : {g : Net} {m n : ℕ → ℕ} {t w : ℕ} → Proper g → Live g m → Reaches g m n → WaitSum g n t w → Waits g n t w
+pub wait-reached : {g : Net} {m n : ℕ → ℕ} {t w : ℕ} → Proper g → Live g m → Reaches g m n → WaitSum g n t w → Demand3 g n t w
 wait-reached ok live r s = wait-demand ok (live-fires (r .fires) .0 live) s
 
 -- There is one such sum.
@@ -51,7 +51,7 @@ pub record Run (g : Net) (m : ℕ → ℕ) (t k : ℕ) : Type 0 where
   pub size : length list ≡ k
 
 -- Every number of firings up to the wait is made by some list.
-pub run : {g : Net} {m : ℕ → ℕ} {t w : ℕ} → Waits g m t w → (k : ℕ) → k ≤ w → Run g m t k
+pub run : {g : Net} {m : ℕ → ℕ} {t w : ℕ} → Demand3 g m t w → (k : ℕ) → k ≤ w → Run g m t k
 unfolding count
 run {m} x zero h = record { end = m; list = []; fires = still (λ p l. refl); none = refl; size = refl }
 run {g} {t} x (suc k) h =
@@ -66,11 +66,11 @@ run {g} {t} x (suc k) h =
       size = omega (arith, length-append (r .list) (u ∷ []), r .size);
     }
 
-no-longer : {g : Net} {m : ℕ → ℕ} {t w v : ℕ} → Waits g m t w → Waits g m t v → w ≤ v
+no-longer : {g : Net} {m : ℕ → ℕ} {t w v : ℕ} → Demand3 g m t w → Demand3 g m t v → w ≤ v
 no-longer {w} x y = let r = run x w (omega arith) in omega (arith, y .most (r .end) (r .list) (r .fires) (r .none), r .size)
 
 -- Two numbers that meet demand 3 are the same.
-pub waits-unique : {g : Net} {m : ℕ → ℕ} {t w v : ℕ} → Waits g m t w → Waits g m t v → w ≡ v
+pub waits-unique : {g : Net} {m : ℕ → ℕ} {t w v : ℕ} → Demand3 g m t w → Demand3 g m t v → w ≡ v
 waits-unique x y = omega (arith, no-longer x y, no-longer y x)
 
 -- How long a wait can be, where a net has at most n transitions and each place at most k tokens.

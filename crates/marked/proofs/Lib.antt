@@ -29,3 +29,4 @@ pub mod Reduce
 pub mod Check
 pub mod Largest
 pub mod Example
+pub mod Alike

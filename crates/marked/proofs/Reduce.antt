@@ -39,15 +39,15 @@ lower a b h =
         ap (λ (x : ℕ). x % b) f3 ∙ mul-mod-left c₂ b
 
 -- The largest time per token may be told in any terms.
-pub largest-same : (g : Net) (m : ℕ → ℕ) (a b c e : ℕ) → 1 ≤ b → SameRatio a b c e → Largest g m a b → Largest g m c e
-largest-same g m a b c e h s x =
+pub largest-same : (g : Net) (m time : ℕ → ℕ) (a b c e : ℕ) → 1 ≤ b → SameRatio a b c e → Largest g m time a b → Largest g m time c e
+largest-same g m time a b c e h s x =
     record {
       bound = bounds;
       turn = x .turn;
       ring = x .ring;
       circuit = x .circuit;
-      attains = eq-of-mul-eq-mul-right b h (e * lasts g (x .ring)) (c * tokens m (x .ring)) (omega (arith, ap (λ (z : ℕ). e * z) (x .attains), ap (λ (z : ℕ). z * tokens m (x .ring)) s));
+      attains = eq-of-mul-eq-mul-right b h (e * lasts g time (x .ring)) (c * tokens m (x .ring)) (omega (arith, ap (λ (z : ℕ). e * z) (x .attains), ap (λ (z : ℕ). z * tokens m (x .ring)) s));
     }
   where
-    bounds : (v : ℕ) (ps : List ℕ) → Circuit g v ps → e * lasts g ps ≤ c * tokens m ps
+    bounds : (v : ℕ) (ps : List ℕ) → Circuit g v ps → e * lasts g time ps ≤ c * tokens m ps
     bounds v ps y = le-of-mul-le-mul-right {k = b} (omega (arith, mul-le-mul-left e (x .bound v ps y), ap (λ (z : ℕ). z * tokens m ps) s)) h

@@ -12,10 +12,10 @@ use Rattle.marked.proofs.Pigeonhole.{pigeonhole, sum-distinct}
 use Rattle.marked.proofs.Walks.{froms-in, length-froms}
 
 -- the time of the places is the time of the transitions they leave from
-lasts-froms : (g : Net) (ps : List ℕ) → lasts g ps ≡ sum (g .time) (froms g ps)
+lasts-froms : (g : Net) (time : ℕ → ℕ) (ps : List ℕ) → lasts g time ps ≡ sum time (froms g ps)
 unfolding sum
-lasts-froms g [] = refl
-lasts-froms g (p ∷ ps) = omega (arith, lasts-froms g ps)
+lasts-froms g time [] = refl
+lasts-froms g time (p ∷ ps) = omega (arith, lasts-froms g time ps)
 
 -- a place whose source is new is new
 avoids-places : (g : Net) (p : ℕ) (ps : List ℕ) → Avoids (g .src p) (froms g ps) → Avoids p ps
@@ -43,8 +43,8 @@ module _ (g : Net) (ok : Proper g) {a : ℕ} {ps : List ℕ} (c : Circuit g a ps
   circuit-length = omega (arith, pigeonhole (g .transitions) (froms g ps) (froms-in ok (c .walk)) (c .simple), length-froms g ps)
 
   -- lasts no longer than all transitions together,
-  pub circuit-lasts : lasts g ps ≤ upto (g .time) (g .transitions)
-  circuit-lasts = omega (arith, sum-distinct (g .time) (g .transitions) (froms g ps) (froms-in ok (c .walk)) (c .simple), lasts-froms g ps)
+  pub circuit-lasts : (time : ℕ → ℕ) → lasts g time ps ≤ upto time (g .transitions)
+  circuit-lasts time = omega (arith, sum-distinct time (g .transitions) (froms g ps) (froms-in ok (c .walk)) (c .simple), lasts-froms g time ps)
 
   -- and holds no more tokens than all places together.
   pub circuit-tokens : (m : ℕ → ℕ) → tokens m ps ≤ upto m (g .places)
