@@ -1,4 +1,3 @@
-pub mod Answers
 pub mod Shapes
 pub mod Relaxing
 pub mod Fewest
@@ -6,3 +5,4 @@ pub mod Starting
 pub mod Table
 pub mod Safe
 pub mod Strong
+pub mod Good

@@ -1,8 +1,7 @@
+pub mod Limits
 pub mod Plan
 pub mod Ends
 pub mod Graph
-pub mod Valid
-pub mod Work
-pub mod Distance
-pub mod Relax
-pub mod Start
+pub mod Rules
+pub mod Good
+pub mod helpers

@@ -1,4 +1,4 @@
-// The computational graph of document 01, over the operation count and the rows of the edges: no place table is ever built.
+// The computational graph of document 01, over the operation count and the rows of the edges.
 pub mod distances;
 pub mod ends;
 pub mod start;
@@ -14,9 +14,3 @@ pub const NODES: usize = OPERATIONS + 2;
 pub const TRANSITIONS: usize = 3 * OPERATIONS + 2;
 
 pub const PLACES: usize = 3 * OPERATIONS + 2 * EDGES;
-
-// What a search found: the lowest such number, or none.
-pub enum Found {
-    At(usize),
-    Nothing,
-}

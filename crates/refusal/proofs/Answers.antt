@@ -4,7 +4,7 @@ use mathlib.Core.Bool.{Bool, false, true, true≢false}
 use Prim.Native.Nat.{ℕ}
 use lib.Dec.{eqb}
 use borrow.Author.Tests.{eqb-false, eqb-true}
-use Rattle.net.specs.Work.{Says, fails, holds}
+use Rattle.refusal.specs.helpers.Answers.{Says, fails, holds}
 
 pub said : {P : Type 0} {r : Bool} → Says P r → r ≡ true → P
 said (holds p) e = p

@@ -1,0 +1,5 @@
+pub mod Lent
+pub mod Work
+pub mod Distance
+pub mod Relax
+pub mod Start
