@@ -1,3 +1,2 @@
 pub mod Dead
-pub mod Climb
-pub mod Closing
+pub mod helpers

@@ -7,8 +7,8 @@ ghost use mathlib.Core.List.{List};
 ghost use mathlib.Core.Bool.{false};
 ghost use Prim.Native.Nat.{ℕ, _+_, _*_, _<_, _≤_};
 ghost use lib.ListN.{length};
-ghost use Rattle.net.specs.Valid.{Lent};
-ghost use Rattle.dead.specs.Climb.{Climbed, Passes, Raised};
+ghost use Rattle.net.specs.helpers.Lent.{Lent};
+ghost use Rattle.dead.specs.helpers.Climb.{Climbed, Passes, Raised};
 
 // One place, from s to t: while it is empty, t ranks above s. The answer is true where a rank was raised, now or before, or should be and cannot.
 fn raise(s: usize, t: usize, tokens: u8, rank: &mut [u8; TRANSITIONS], before: bool) -> bool

@@ -25,10 +25,6 @@ rows n e times from to mark buffers = record { operations = n; edges = e; time =
 abbrev pub wires : ℕ → ℕ → List ℕ → List ℕ → Plan
 wires n e from to = rows n e [] from to [] []
 
--- The plan of rows that tell only the marks.
-abbrev pub marks : ℕ → ℕ → List ℕ → Plan
-marks n e mark = rows n e [] [] [] mark []
-
 -- A node is joined to node 0 by edges that run between `from` and `to`, edge directions ignored.
 pub data JoinedBy (edges : ℕ) (from to : ℕ → ℕ) : ℕ → Type 0 where
   source : JoinedBy edges from to 0

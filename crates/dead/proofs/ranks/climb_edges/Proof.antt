@@ -2,7 +2,7 @@
 use Prim.Native.Nat.{_*_, _+_, _-_, _≤_}
 use native.Mathlib.Omega.{arith}
 use borrow.Author.Needs.{needs}
-use Rattle.dead.specs.Climb.{Climbed}
+use Rattle.dead.specs.helpers.Climb.{Climbed}
 use Rattle.dead.proofs.Climbing.{climbed-none, climbed-then, climbed-to}
 use Rattle.dead.proofs.ranks.climb_edges.Statement.{statement}
 use Rattle.dead.proofs.ranks.climb_edges.Tie as tie

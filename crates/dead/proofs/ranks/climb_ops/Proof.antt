@@ -4,7 +4,7 @@ use mathlib.Core.Bool.{false}
 use mathlib.Core.List.{List}
 use native.Mathlib.Omega.{arith}
 use borrow.Author.Needs.{needs}
-use Rattle.dead.specs.Climb.{Climbed}
+use Rattle.dead.specs.helpers.Climb.{Climbed}
 use Rattle.dead.proofs.Climbing.{climbed-none, climbed-then, climbed-to}
 use Rattle.dead.proofs.ranks.climb_ops.Statement.{statement}
 use Rattle.dead.proofs.ranks.climb_ops.Tie as tie

@@ -1,6 +1,6 @@
 -- `raise`: a token, a rank already higher, or a rank raised.
 use borrow.Author.Needs.{needs}
-use Rattle.dead.specs.Climb.Raised.{kept, raised}
+use Rattle.dead.specs.helpers.Climb.Raised.{kept, raised}
 use Rattle.dead.proofs.ranks.raise.Statement.{statement}
 use Rattle.dead.proofs.ranks.raise.Tie as tie
 

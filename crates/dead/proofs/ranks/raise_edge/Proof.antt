@@ -24,7 +24,7 @@ element-copy-out-read-of : tie.Need-element-copy-out-read-of
 element-copy-out-read-of c = search needs
 
 read-of-requires : tie.Need-read-of-requires
-read-of-requires c κs = let s = c .before .before .before .before in s .pre .0 .valid .enters _ (s .pre .1)
+read-of-requires c κs = let s = c .before .before .before .before in s .pre .0 .wired .enters _ (s .pre .1)
 
 shared-slice-read-raise : tie.Need-shared-slice-read-raise
 shared-slice-read-raise c = search needs
@@ -32,7 +32,7 @@ shared-slice-read-raise c = search needs
 raise-requires : tie.Need-raise-requires
 raise-requires c κs =
     let s = c .before .before .before .before .before .before .before in
-    omega (arith, s .pre .0 .valid .leaves _ (s .pre .1), s .pre .0 .valid .ends _ (s .pre .1))
+    omega (arith, s .pre .0 .wired .leaves _ (s .pre .1), s .pre .0 .wired .ends _ (s .pre .1))
 
 add-raise : tie.Need-add-raise
 add-raise c = search needs
@@ -43,7 +43,7 @@ shared-slice-read-raise-2 c = search needs
 raise-requires-2 : tie.Need-raise-requires-2
 raise-requires-2 c κs =
     let s = c .before .before .before .before .before .before .before .before .before .before in
-    omega (arith, s .pre .0 .valid .leaves _ (s .pre .1), s .pre .0 .valid .ends _ (s .pre .1))
+    omega (arith, s .pre .0 .wired .leaves _ (s .pre .1), s .pre .0 .wired .ends _ (s .pre .1))
 
 returns : tie.Need-returns
 returns c =

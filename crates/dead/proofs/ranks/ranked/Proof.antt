@@ -3,7 +3,7 @@ use Prim.Native.Nat.{_*_, _+_, _-_, _≤_}
 use native.Mathlib.Omega.{arith}
 use borrow.Author.Needs.{needs}
 use borrow.Author.Tests.{not-true}
-use Rattle.dead.specs.Climb.{passed, unsure}
+use Rattle.dead.specs.helpers.Climb.{passed, unsure}
 use Rattle.dead.proofs.Climbing.{climbed-live}
 use Rattle.dead.proofs.ranks.ranked.Statement.{statement}
 use Rattle.dead.proofs.ranks.ranked.Tie as tie
