@@ -5,9 +5,9 @@ use mathlib.Core.Logic.{⊎-elim}
 use mathlib.Core.List.{List}
 use native.Mathlib.Omega.{arith}
 use lib.ListN.{length}
-use Rattle.file.specs.Limits.{Within}
-use Rattle.file.specs.File.{trailerAt, operationsAt, operationsOf, edgesAt, edgesOf}
-use Rattle.file.specs.Rows.{Framed}
+use Rattle.net.specs.Limits.{Within}
+use Rattle.file.specs.File.{edgesAt, edgesOf, operationsAt, operationsOf, trailerAt}
+use Rattle.file.specs.Frame.{Framed}
 
 module _ (f : List ℕ) (h : Framed f) where
   pub trailer-inside : trailerAt f + 16 ≡ length f

@@ -2,12 +2,13 @@
 use Prim.Native.Nat.{ℕ, _+_, _*_, _-_}
 use mathlib.Core.List.{List}
 use lib.ListN.{length}
-use Rattle.little.specs.Little.{byteAt, word, quad}
+use Rattle.little.specs.Little.{byteAt, quad, word}
 use Rattle.net.specs.Plan.{Plan}
+use Rattle.file.specs.Limits.{edgeBytes, operationBytes, trailerBytes}
 
--- The trailer begins 16 bytes before the end.
+-- The trailer stands at the end.
 unfoldable pub trailerAt : List ℕ → ℕ
-trailerAt f = length f - 16
+trailerAt f = length f - trailerBytes
 
 -- The offset of the operation table.
 unfoldable pub operationsAt : List ℕ → ℕ
@@ -29,13 +30,13 @@ edgesOf f = word f (trailerAt f + 6)
 unfoldable pub backOf : List ℕ → ℕ
 backOf f = word f (trailerAt f + 8)
 
--- The time of operation i: the first 4 of the 12 bytes of its record. Operations are numbered from 1.
-unfoldable pub timeIn : List ℕ → ℕ → ℕ
-timeIn f i = quad f (operationsAt f + 12 * (i - 1))
+-- The time of operation i: the first 4 bytes of its record. Operations are numbered from 1.
+unfoldable pub operationTime : List ℕ → ℕ → ℕ
+operationTime f i = quad f (operationsAt f + operationBytes * (i - 1))
 
--- Byte k of the 4 bytes of edge e: 0 is from, 1 is to, 2 is the mark, 3 is zero. Edges are numbered from 0.
+-- Byte k of edge e: 0 is from, 1 is to, 2 is the mark, 3 is the fourth. Edges are numbered from 0.
 unfoldable pub edgeByte : List ℕ → ℕ → ℕ → ℕ
-edgeByte f e k = byteAt f (edgesAt f + 4 * e + k)
+edgeByte f e k = byteAt f (edgesAt f + edgeBytes * e + k)
 
 -- The graph that the two tables hold. A label is no part of it.
 abbrev pub planOf : List ℕ → Plan
@@ -43,8 +44,9 @@ planOf f =
     record {
       operations = operationsOf f;
       edges = edgesOf f;
-      time = timeIn f;
+      time = operationTime f;
       from = λ (e : ℕ). edgeByte f e 0;
       to = λ (e : ℕ). edgeByte f e 1;
       mark = λ (e : ℕ). edgeByte f e 2;
+      buffers = λ (e : ℕ). edgeByte f e 3;
     }

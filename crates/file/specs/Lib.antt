@@ -1,6 +1,5 @@
 pub mod Limits
 pub mod File
-pub mod Refusals
-pub mod Rows
+pub mod Frame
 pub mod Labels
-pub mod Work
+pub mod helpers

@@ -1,23 +1,23 @@
--- The limits of a graph (document 01, "What a graph is here"): what the refusals test.
-use Prim.Native.Nat.{ℕ, _≤_}
+-- The sizes that a file is made of, and the limits of its length (document 01).
+use Prim.Native.Nat.{ℕ}
+use Rattle.net.specs.Limits.{Within}
 
--- n lies from low to high.
-pub record Within (low high n : ℕ) : Type 0 where
-  pub low-met : low ≤ n
-  pub high-met : n ≤ high
+-- The bytes of the trailer.
+abbrev pub trailerBytes : ℕ
+trailerBytes = 16
 
--- The operations of a graph, N: from 1 to 40.
-abbrev pub OperationCount : ℕ → Type 0
-OperationCount n = Within 1 40 n
+-- The bytes of an operation's record: time, label.
+abbrev pub operationBytes : ℕ
+operationBytes = 12
 
--- The edges of a graph, E: from 2 to 128.
-abbrev pub EdgeCount : ℕ → Type 0
-EdgeCount e = Within 2 128 e
+-- The bytes of an edge's record: from, to, mark, zero.
+abbrev pub edgeBytes : ℕ
+edgeBytes = 4
 
--- An operation's time: from 1 to 1,000,000 units.
-abbrev pub Duration : ℕ → Type 0
-Duration t = Within 1 1000000 t
+-- The longest file, in bytes.
+abbrev pub longestFile : ℕ
+longestFile = 2048
 
--- The length of a file: from 16 to 2,048 bytes.
+-- The length of a file: its trailer at least.
 abbrev pub FileLength : ℕ → Type 0
-FileLength l = Within 16 2048 l
+FileLength l = Within trailerBytes longestFile l

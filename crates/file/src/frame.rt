@@ -7,9 +7,12 @@ use little::byte;
 use little::word;
 use net::EDGES;
 use net::OPERATIONS;
-ghost use Rattle.file.specs.Rows.{Sized, EndsWithMagic, Signed, Counted, Laid};
-ghost use Rattle.net.specs.Work.{Says};
-ghost use Rattle.file.specs.Work.{TrailerOf, Frames};
+use refusal::Verdict;
+use refusal::refuse;
+ghost use Rattle.refusal.specs.Asking.{Judged};
+ghost use Rattle.refusal.specs.helpers.Answers.{Says};
+ghost use Rattle.file.specs.Frame.{CountsKept, EndsWithMagic, Laid, Signed, Sized, frameRows};
+ghost use Rattle.file.specs.helpers.Trailer.{TrailerOf};
 
 // The numbers of a file's trailer.
 pub struct Trailer {
@@ -82,7 +85,7 @@ fn signed(file: &[u8]) -> bool
 // Row 3: N and E are within their limits.
 fn counted(file: &[u8]) -> bool
     requires { ⌜ Sized (now file) ⌝ }
-    ensures { λ r. ⌜ Says (Counted (now (file .entry))) r ⌝ }
+    ensures { λ r. ⌜ Says (CountsKept (now (file .entry))) r ⌝ }
 {
     let t = numbers(file);
     if t.operations < 1 {
@@ -103,7 +106,7 @@ fn counted(file: &[u8]) -> bool
 // Row 4. The tables are never empty, so the one that comes first stands at 0 and the other right behind it.
 fn laid(file: &[u8]) -> bool
     requires { ⌜ Sized (now file) ⌝ }
-    requires { ⌜ Counted (now file) ⌝ }
+    requires { ⌜ CountsKept (now file) ⌝ }
     ensures { λ r. ⌜ Says (Laid (now (file .entry))) r ⌝ }
 {
     let t = numbers(file);
@@ -131,21 +134,21 @@ fn laid(file: &[u8]) -> bool
     true
 }
 
-// The lowest of rows 1 to 4 that applies, or 0.
-pub fn framed(file: &[u8]) -> u8
-    ensures { λ r. ⌜ Frames (now (file .entry)) r ⌝ }
+// The first of rows 1 to 4 that is broken, or accepted.
+pub fn framed(file: &[u8]) -> Verdict
+    ensures { λ r. ⌜ Judged (frameRows (now (file .entry))) r ⌝ }
 {
     if !sized(file) {
-        return 1;
+        return refuse(1, 0);
     }
     if !signed(file) {
-        return 2;
+        return refuse(2, 0);
     }
     if !counted(file) {
-        return 3;
+        return refuse(3, 0);
     }
     if !laid(file) {
-        return 4;
+        return refuse(4, 0);
     }
-    0
+    Verdict::Accepted
 }

@@ -10,14 +10,14 @@ use borrow.Author.Count.{below-more}
 use lib.ListN.{length, set, replicate, length-set}
 use lib.Seq.{getD-set-other}
 use Rattle.marked.specs.Net.{at}
-use Rattle.net.specs.Plan.{Joined, source, along, against}
-use Rattle.net.specs.Valid.{Valid}
-use Rattle.links.specs.Work.{wires, Ended, Reached, Even, missing, Spread, Passed, Marks}
+use Rattle.net.specs.Plan.{Joined, against, along, source}
+use Rattle.net.specs.Good.{Wired}
+use Rattle.links.specs.Work.{Ended, Even, Marks, Passed, Reached, Spread, missing, wires}
 use Rattle.file.proofs.Alike.{SameEdges, joined-same}
 use Rattle.marked.proofs.Fresh.{zeros}
 
 -- Rows within the limits have room for their ends among the marks.
-pub valid-ended : {n e : ℕ} {from to : List ℕ} → Valid n e from to → Ended e from to
+pub valid-ended : {n e : ℕ} {from to : List ℕ} → Wired n e from to → Ended e from to
 valid-ended ok = record { edges = ok .edges; leaves = λ k l. omega (arith, ok .operations, ok .leaves k l); enters = λ k l. omega (arith, ok .operations, ok .ends k l) }
 
 missing-set : (xs : List ℕ) (i : ℕ) → missing (set xs i 1) ≤ missing xs

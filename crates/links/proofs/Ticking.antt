@@ -7,8 +7,8 @@ use native.Mathlib.Decide.{ℕ-discrete}
 use lib.ListN.{length, set, replicate}
 use lib.Seq.{getD-set-same}
 use Rattle.marked.specs.Net.{at}
-use Rattle.file.specs.Rows.{Touched, Linked}
-use Rattle.links.specs.Work.{Ticks, Bound, wires}
+use Rattle.net.specs.Rules.{Linked, Touched}
+use Rattle.links.specs.Work.{Bound, Ticks, wires}
 use Rattle.marked.proofs.Fresh.{zeros}
 use Rattle.links.proofs.Reach.{set-marked, set-sound}
 

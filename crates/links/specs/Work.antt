@@ -5,8 +5,8 @@ use mathlib.Core.Bool.{Bool, true, false}
 use mathlib.Core.List.{List, [], _∷_}
 use lib.ListN.{length}
 use Rattle.marked.specs.Net.{at}
-use Rattle.net.specs.Plan.{Plan, rows, Joined}
-use Rattle.file.specs.Rows.{Touched}
+use Rattle.net.specs.Plan.{Joined, Plan, rows}
+use Rattle.net.specs.Rules.{Touched}
 
 -- The plan of rows without times and marks: what rows 7 and 8 read.
 abbrev pub wires : ℕ → ℕ → List ℕ → List ℕ → Plan

@@ -1,16 +1,16 @@
 // Row 8: the lowest node that is not joined to the source. Marks spread along the edges, pass after pass, until a pass marks nothing.
 use crate::linked::wide;
 use net::EDGES;
-use net::Found;
+use refusal::Found;
 use net::NODES;
 ghost use mathlib.Core.Bool.{false};
 ghost use Prim.Native.Nat.{_+_, _<_};
 ghost use Rattle.net.specs.Plan.{Joined};
-ghost use Rattle.net.specs.Valid.{Valid};
-ghost use Rattle.file.specs.Refusals.{each};
-ghost use Rattle.file.specs.Rows.{Node};
-ghost use Rattle.file.specs.Work.{Finds};
-ghost use Rattle.links.specs.Work.{Ended, Reached, Spread, Passed, Marks, wires};
+ghost use Rattle.net.specs.Good.{Wired};
+ghost use Rattle.refusal.specs.Asking.{askedOf};
+ghost use Rattle.net.specs.Rules.{Node};
+ghost use Rattle.refusal.specs.helpers.Answers.{Finds};
+ghost use Rattle.links.specs.Work.{Ended, Marks, Passed, Reached, Spread, wires};
 
 // Where one end of edge k is marked, the other is marked too. The answer is whether a node has been marked, now or before.
 fn spread(
@@ -64,7 +64,7 @@ fn reach(e: usize, from: &[u8; EDGES], to: &[u8; EDGES]) -> [u8; NODES]
 
 // The lowest node that is not joined to the source.
 pub fn first_apart<'a>(n: usize, e: usize, from: &'a [u8; EDGES], to: &'a [u8; EDGES]) -> Found
-    requires { ⌜ Valid n e (now from) (now to) ⌝ }
+    requires { ⌜ Wired n e (now from) (now to) ⌝ }
     ensures { λ r. ⌜ Finds (each (Node (wires n e (now (from .entry)) (now (to .entry)))) (Joined (wires n e (now (from .entry)) (now (to .entry))))) r ⌝ }
 {
     let seen = reach(e, from, to);

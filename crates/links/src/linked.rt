@@ -1,15 +1,14 @@
 // Row 7: the lowest node that lacks an edge out or an edge in. One pass over the edges, then one over the nodes.
 use net::EDGES;
-use net::Found;
+use refusal::Found;
 use net::NODES;
 ghost use mathlib.Core.Path.{_≡_};
 ghost use Prim.Native.Nat.{_≤_};
-ghost use Rattle.net.specs.Valid.{Valid};
-ghost use Rattle.file.specs.Refusals.{each};
-ghost use Rattle.file.specs.Rows.{Node, Linked};
-ghost use Rattle.net.specs.Work.{Says};
-ghost use Rattle.file.specs.Work.{Finds};
-ghost use Rattle.links.specs.Work.{Roomy, Ticks, Bound, wires};
+ghost use Rattle.net.specs.Good.{Wired};
+ghost use Rattle.refusal.specs.Asking.{askedOf};
+ghost use Rattle.net.specs.Rules.{Linked, Node};
+ghost use Rattle.refusal.specs.helpers.Answers.{Finds, Says};
+ghost use Rattle.links.specs.Work.{Bound, Roomy, Ticks, wires};
 
 // A node's byte as an index.
 pub fn wide(x: u8) -> usize
@@ -52,7 +51,7 @@ fn bound(n: usize, node: usize, out: u8, into: u8) -> bool
 
 // The lowest node that lacks an edge out or in.
 pub fn first_bare<'a>(n: usize, e: usize, from: &'a [u8; EDGES], to: &'a [u8; EDGES]) -> Found
-    requires { ⌜ Valid n e (now from) (now to) ⌝ }
+    requires { ⌜ Wired n e (now from) (now to) ⌝ }
     ensures { λ r. ⌜ Finds (each (Node (wires n e (now (from .entry)) (now (to .entry)))) (Linked (wires n e (now (from .entry)) (now (to .entry))))) r ⌝ }
 {
     let out = tick(e, from);

@@ -37,3 +37,8 @@ EdgeCount e = Within 2 mostEdges e
 -- An operation's time: 1 unit at least.
 abbrev pub Duration : ℕ → Type 0
 Duration t = Within 1 longestTime t
+
+-- N and E are within their limits.
+pub record Counted (n e : ℕ) : Type 0 where
+  pub operations : OperationCount n
+  pub edges : EdgeCount e

@@ -1,7 +1,9 @@
 -- A graph as numbers, from wherever they are read: what document 01 says of operations, edges and nodes.
+use mathlib.Core.Path.{_≡_}
 use mathlib.Core.List.{List, []}
 use Prim.Native.Nat.{_-_, _<_, ℕ}
 use Rattle.marked.specs.Net.{at}
+use Rattle.net.specs.Limits.{Within}
 
 -- A graph: operations 1 to N with their times, edges 0 to E - 1 with the four bytes of their rows. Node 0 is the source, node N + 1 the sink.
 pub record Plan : Type 0 where
@@ -34,3 +36,13 @@ pub data JoinedBy (edges : ℕ) (from to : ℕ → ℕ) : ℕ → Type 0 where
 -- A node is joined to the source.
 abbrev pub Joined : Plan → ℕ → Type 0
 Joined g a = JoinedBy (g .edges) (g .from) (g .to) a
+
+-- Two plans agree in all that is asked of them.
+pub record Agree (p q : Plan) : Type 0 where
+  pub operations : p .operations ≡ q .operations
+  pub edges : p .edges ≡ q .edges
+  pub time : (i : ℕ) → Within 1 (p .operations) i → p .time i ≡ q .time i
+  pub from : (e : ℕ) → e < p .edges → p .from e ≡ q .from e
+  pub to : (e : ℕ) → e < p .edges → p .to e ≡ q .to e
+  pub mark : (e : ℕ) → e < p .edges → p .mark e ≡ q .mark e
+  pub buffers : (e : ℕ) → e < p .edges → p .buffers e ≡ q .buffers e

@@ -29,12 +29,16 @@ Transition g t = t < netOf g .transitions
 abbrev pub Timely : Plan → ℕ → Type 0
 Timely g i = Duration (g .time i)
 
+-- The four bytes of an edge's row are allowed in a graph of n operations: from, to, mark, and a zero byte.
+pub record RowAllowed (n from to mark fourth : ℕ) : Type 0 where
+  pub leaves : from ≤ n
+  pub enters : Within 1 (n + 1) to
+  pub marked : mark ≤ 1
+  pub zero-byte : fourth ≡ 0
+
 -- 6: an edge's from, to, mark and fourth byte are allowed.
-pub record Allowed (g : Plan) (e : ℕ) : Type 0 where
-  pub leaves : g .from e ≤ g .operations
-  pub enters : Within 1 (g .operations + 1) (g .to e)
-  pub marked : g .mark e ≤ 1
-  pub zero-byte : g .buffers e ≡ 0
+abbrev pub Allowed : Plan → ℕ → Type 0
+Allowed g e = RowAllowed (g .operations) (g .from e) (g .to e) (g .mark e) (g .buffers e)
 
 -- Some edge has node n as the end that is asked for: its from, or its to.
 pub record Touched (edges : ℕ) (end : ℕ → ℕ) (n : ℕ) : Type 0 where
@@ -42,21 +46,39 @@ pub record Touched (edges : ℕ) (end : ℕ → ℕ) (n : ℕ) : Type 0 where
   pub inside : edge < edges
   pub there : end edge ≡ n
 
--- 7: every node but the sink has an edge out, and every node but the source has an edge in.
-pub record Linked (g : Plan) (n : ℕ) : Type 0 where
-  pub out : n ≤ g .operations → Touched (g .edges) (g .from) n
-  pub into : 1 ≤ n → Touched (g .edges) (g .to) n
+-- Node v has its edges among those of n operations: every node but the sink has one out, and every node but the source has one in.
+pub record NodeLinked (n edges : ℕ) (from to : ℕ → ℕ) (v : ℕ) : Type 0 where
+  pub out : v ≤ n → Touched edges from v
+  pub into : 1 ≤ v → Touched edges to v
+
+-- 7: a node has its edges.
+abbrev pub Linked : Plan → ℕ → Type 0
+Linked g v = NodeLinked (g .operations) (g .edges) (g .from) (g .to) v
 
 -- 9: every directed circuit of the computational graph through transition t has a token at the start.
 abbrev pub Alive : Plan → ℕ → Type 0
 Alive g t = (ring : List ℕ) → Circuit (netOf g) t ring → 1 ≤ tokens (startOf g) ring
 
--- The rows of a graph, in order. (8: every node is joined to the source, edge directions ignored.)
+-- Row 5, of each operation.
+abbrev pub row5 : Plan → Ask
+row5 g = askedOf 5 (Operation g) (Timely g)
+
+-- Row 6, of each edge.
+abbrev pub row6 : Plan → Ask
+row6 g = askedOf 6 (Edge g) (Allowed g)
+
+-- Row 7, of each node.
+abbrev pub row7 : Plan → Ask
+row7 g = askedOf 7 (Node g) (Linked g)
+
+-- Row 8, of each node: it is joined to the source, edge directions ignored.
+abbrev pub row8 : Plan → Ask
+row8 g = askedOf 8 (Node g) (Joined g)
+
+-- Row 9, of each transition.
+abbrev pub row9 : Plan → Ask
+row9 g = askedOf 9 (Transition g) (Alive g)
+
+-- The rows of a graph, in order.
 abbrev pub graphRows : Plan → List Ask
-graphRows g =
-    askedOf 5 (Operation g) (Timely g)
-    ∷ askedOf 6 (Edge g) (Allowed g)
-    ∷ askedOf 7 (Node g) (Linked g)
-    ∷ askedOf 8 (Node g) (Joined g)
-    ∷ askedOf 9 (Transition g) (Alive g)
-    ∷ []
+graphRows g = row5 g ∷ row6 g ∷ row7 g ∷ row8 g ∷ row9 g ∷ []

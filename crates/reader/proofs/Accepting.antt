@@ -4,26 +4,26 @@ use mathlib.Core.Path.{_≡_, refl, sym, _∙_, subst, ap}
 use mathlib.Core.List.{List}
 use native.Mathlib.Omega.{arith}
 use lib.ListN.{length}
-use Rattle.marked.specs.Net.{Net, Walk, stop, go, Proper, at}
+use Rattle.marked.specs.Net.{Net, Proper, Walk, at, go, stop}
 use Rattle.marked.specs.Circuits.{Live}
 use Rattle.marked.proofs.Shorten.{live-by-circuits}
-use Rattle.net.specs.Plan.{Plan, Limited}
+use Rattle.net.specs.Plan.{Plan}
+use Rattle.net.specs.Good.{Good, Marked, Wired}
 use Rattle.net.specs.Graph.{netOf, startOf}
-use Rattle.net.specs.Valid.{Single, Valid}
-use Rattle.net.proofs.Shapes.{limited-proper}
-use Rattle.file.specs.Limits.{Within}
-use Rattle.file.specs.File.{operationsOf, edgesOf, planOf}
-use Rattle.file.specs.Refusals.{Sound}
-use Rattle.file.specs.Rows.{Transition, Alive, table}
-use Rattle.reader.specs.Reply.{Shows, Judged, Beside, LookReply, shown}
+use Rattle.net.proofs.Shapes.{wired-proper}
+use Rattle.net.specs.Limits.{Within}
+use Rattle.file.specs.File.{edgesOf, operationsOf, planOf}
+use Rattle.refusal.specs.Asking.{Sound}
+use Rattle.net.specs.Rules.{Alive, Transition}
+use Rattle.file.specs.Rows.{table}
+use Rattle.reader.specs.Reply.{Beside, Judged, LookReply, Shows, shown}
 use Rattle.file.specs.Labels.{Agree}
-use Rattle.reader.specs.Accepted.{Accepted}
 use Rattle.reader.specs.declared.graph.Graph.{Graph}
 use Rattle.reader.specs.declared.graph.Look.{Look}
-use Rattle.reader.specs.declared.graph.Verdict.{Verdict}
-use Rattle.reader.specs.declared.graph.Verdict.the-variants.{Accepted as accepted-verdict}
-use Rattle.file.proofs.Alike.{Wired, wired-sym, edge-same, node-same, transition-same, joined-same, linked-same, alive-same}
-use Rattle.file.proofs.Agree.{agree-wired, agree-sym, operation-same, timely-same}
+use Rattle.refusal.specs.declared.Verdict.{Verdict}
+use Rattle.refusal.specs.declared.Verdict.the-variants.{Accepted as accepted-verdict}
+use Rattle.file.proofs.Alike.{Wired, alive-same, edge-same, joined-same, linked-same, node-same, transition-same, wired-sym}
+use Rattle.file.proofs.Agree.{agree-sym, agree-wired, operation-same, timely-same}
 
 -- A circuit leaves from a transition of the net.
 circuit-in : {g : Net} {a b : ℕ} {ps : List ℕ} → Proper g → Walk g a b ps → 1 ≤ length ps → a < g .transitions
@@ -33,7 +33,7 @@ circuit-in ok (go p l w) s = ok .src-in p l
 -- With each transition alive, the start is live.
 alive-live : {p : Plan} → Limited p → ((t : ℕ) → Transition p t → Alive p t) → Live (netOf p) (startOf p)
 alive-live {p} ok each =
-    live-by-circuits (netOf p) (startOf p) (λ a ps c. each a (circuit-in (limited-proper ok) (c .walk) (c .some)) ps c)
+    live-by-circuits (netOf p) (startOf p) (λ a ps c. each a (circuit-in (wired-proper ok) (c .walk) (c .some)) ps c)
 
 -- The plan that a graph shows agrees with the one it is read from.
 shown-agrees : {p : Plan} {g : Graph} → Shows p (p .operations) (p .edges) g → Agree p (shown g)
@@ -96,10 +96,10 @@ module _ (f : List ℕ) (r : Look) (e : r .verdict ≡ accepted-verdict) (h : Lo
 
 -- What an accepted graph gives to the code that is lent its rows.
 module _ {g : Graph} (a : Accepted g) where
-  pub accepted-valid : Valid (g .operations) (g .edges) (g .from) (g .to)
+  pub accepted-valid : Wired (g .operations) (g .edges) (g .from) (g .to)
   accepted-valid =
       let l = a .limited in
       record { operations = l .operations; edges = l .edges; leaves = l .leaves; enters = l .enters; ends = l .ends }
 
-  pub accepted-single : Single (g .operations) (g .edges) (g .mark)
+  pub accepted-single : Marked (g .operations) (g .edges) (g .mark)
   accepted-single = record { operations = a .limited .operations; edges = a .limited .edges; marks = a .marked }

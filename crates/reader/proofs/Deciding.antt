@@ -8,12 +8,13 @@ use native.Mathlib.Omega.{arith}
 use lib.Dec.{T, eqb, eqb→eq, eqb-refl}
 use lib.ListN.{length, getD}
 use Rattle.little.specs.Little.{byteAt}
-use Rattle.marked.proofs.Decide.{le?, eq?, both?, given?, same?, each?}
+use Rattle.marked.proofs.Decide.{both?, each?, eq?, given?, le?, same?}
 use Rattle.net.specs.Plan.{Plan}
-use Rattle.file.specs.Limits.{Within}
-use Rattle.file.specs.File.{trailerAt, operationsAt, operationsOf, edgesAt, edgesOf, backOf, edgeByte}
-use Rattle.file.specs.Refusals.{Ask, Kept, Lowest}
-use Rattle.file.specs.Rows.{Sized, Signed, Counted, Laid, magic, Timely, Allowed, Touched, Linked}
+use Rattle.net.specs.Limits.{Within}
+use Rattle.file.specs.File.{backOf, edgeByte, edgesAt, edgesOf, operationsAt, operationsOf, trailerAt}
+use Rattle.refusal.specs.Asking.{Ask, Kept, Lowest}
+use Rattle.file.specs.Rows.{Counted, Laid, Signed, Sized, magic}
+use Rattle.net.specs.Rules.{Allowed, Linked, Timely, Touched}
 use Rattle.reader.proofs.Ways.{seek}
 
 -- The rules of rows 1 to 7.

@@ -7,14 +7,14 @@ use native.Mathlib.Decide.{ℕ-discrete, decLt}
 use lib.ListN.{getD}
 use lib.Seq.{ext-getD}
 use Rattle.net.specs.Plan.{Plan}
-use Rattle.file.specs.Refusals.{Ask, Given, Sound}
+use Rattle.refusal.specs.Asking.{Ask, Given, Sound}
 use Rattle.file.specs.Rows.{table}
 use Rattle.tables.specs.Filled.{Filled}
-use Rattle.reader.specs.Reply.{Shows, Judged, Beside, LookReply}
+use Rattle.reader.specs.Reply.{Beside, Judged, LookReply, Shows}
 use Rattle.reader.specs.declared.graph.Graph.{Graph}
 use Rattle.reader.specs.declared.graph.Look.{Look}
-use Rattle.reader.specs.declared.graph.Verdict.{Verdict}
-use Rattle.reader.specs.declared.graph.Verdict.the-variants.{Accepted, Refused}
+use Rattle.refusal.specs.declared.Verdict.{Verdict}
+use Rattle.refusal.specs.declared.Verdict.the-variants.{Accepted, Refused}
 
 same-row : {n room : ℕ} {h : ℕ → ℕ} {xs ys : List ℕ} → Filled n room h xs → Filled n room h ys → xs ≡ ys
 same-row {n} {h} {xs} {ys} s t = ext-getD 0 xs ys (s .long ∙ sym (t .long)) (λ i l. go i (decLt i n))

@@ -7,13 +7,13 @@ use native.Mathlib.Decide.{ℕ-discrete}
 use Rattle.marked.specs.Net.{at, tokens}
 use Rattle.marked.specs.Circuits.{Circuit}
 use Rattle.marked.proofs.Walks.{tokens-same}
-use Rattle.net.specs.declared.Found.{Found}
+use Rattle.refusal.specs.declared.Found.{Found}
 use Rattle.net.specs.Ends.{startAt}
 use Rattle.net.specs.Graph.{netOf, startOf}
-use Rattle.dead.specs.Dead.{Dies, Lives, FirstDead, found, none}
-use Rattle.file.specs.Refusals.{each}
-use Rattle.file.specs.Rows.{Transition, Alive}
-use Rattle.file.specs.Work.{Finds}
+use Rattle.dead.specs.Dead.{Dies, FirstDead, Lives, found, none}
+use Rattle.refusal.specs.Asking.{askedOf}
+use Rattle.net.specs.Rules.{Alive, Transition}
+use Rattle.refusal.specs.helpers.Answers.{Finds}
 use Rattle.reader.specs.Work.{tokened}
 
 -- The marking is the start.

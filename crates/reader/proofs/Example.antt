@@ -2,10 +2,10 @@
 use mathlib.Core.Path.{_≡_, refl}
 use mathlib.Core.List.{List, [], _∷_}
 use Prim.Native.Nat.{ℕ}
-use Rattle.little.specs.Little.{word, quad}
-use Rattle.net.specs.Ends.{srcOf, dstOf, startAt}
-use Rattle.file.specs.File.{trailerAt, operationsAt, operationsOf, edgesAt, edgesOf, backOf, timeIn, edgeByte}
-use Rattle.reader.specs.declared.graph.Verdict.the-variants.{Refused}
+use Rattle.little.specs.Little.{quad, word}
+use Rattle.net.specs.Ends.{dstOf, srcOf, startAt}
+use Rattle.file.specs.File.{backOf, edgeByte, edgesAt, edgesOf, operationsAt, operationsOf, timeIn, trailerAt}
+use Rattle.refusal.specs.declared.Verdict.the-variants.{Refused}
 use Rattle.reader.proofs.Total.{lookOf}
 
 -- Two operations of time 1; 0-1, 1-2, 1-2*, 2-3; the trailer.

@@ -3,21 +3,23 @@ use Prim.Native.Nat.{ℕ, _<_}
 use mathlib.Core.Path.{_≡_, sym, subst⁻¹}
 use mathlib.Core.List.{List}
 use native.Mathlib.Omega.{arith}
-use Rattle.net.specs.Plan.{Joined, Marked}
-use Rattle.net.specs.Valid.{Valid}
-use Rattle.file.specs.File.{operationsOf, edgesOf, planOf}
-use Rattle.file.specs.Refusals.{row, each, Kept}
-use Rattle.file.specs.Rows.{Framed, Node, Transition, Linked, Alive, table}
-use Rattle.reader.specs.Reply.{Shows, Beside}
-use Rattle.file.specs.Work.{Finds}
+use Rattle.net.specs.Plan.{Joined}
+use Rattle.net.specs.Good.{Marked, Wired}
+use Rattle.file.specs.File.{edgesOf, operationsOf, planOf}
+use Rattle.file.specs.Refusals.{row}
+use Rattle.refusal.specs.Asking.{Kept, askedOf}
+use Rattle.file.specs.Rows.{Framed, table}
+use Rattle.net.specs.Rules.{Alive, Linked, Node, Transition}
+use Rattle.reader.specs.Reply.{Beside, Shows}
+use Rattle.refusal.specs.helpers.Answers.{Finds}
 use Rattle.links.specs.Work.{wires}
 use Rattle.reader.specs.Work.{tokened}
 use Rattle.reader.specs.declared.graph.Graph.{Graph}
-use Rattle.reader.specs.declared.graph.Verdict.{Verdict}
-use Rattle.reader.specs.declared.graph.Verdict.the-variants.{Accepted, Refused}
-use Rattle.net.specs.declared.Found.{Found}
+use Rattle.refusal.specs.declared.Verdict.{Verdict}
+use Rattle.refusal.specs.declared.Verdict.the-variants.{Accepted, Refused}
+use Rattle.refusal.specs.declared.Found.{Found}
 use Rattle.file.proofs.Answers.{finds-map}
-use Rattle.file.proofs.Alike.{Wired, wired-sym, MarkedAlike, node-same, transition-same, linked-same, joined-same, alive-same}
+use Rattle.file.proofs.Alike.{MarkedAlike, Wired, alive-same, joined-same, linked-same, node-same, transition-same, wired-sym}
 
 module _ (f : List ℕ) (g : Graph) (s : Shows (planOf f) (operationsOf f) (edgesOf f) g) where
   tokened-wired : Wired (tokened (g .operations) (g .edges) (g .from) (g .to) (g .mark)) (planOf f)
@@ -53,7 +55,7 @@ module _ (f : List ℕ) (g : Graph) (s : Shows (planOf f) (operationsOf f) (edge
       finds-map (transition-same w) (transition-same (wired-sym w)) (λ x p. alive-same w marks x) (λ x p. alive-same (wired-sym w) (λ e l. sym (s .mark .used e l)) x) r h
 
   -- Rows 3 and 6 give what the searches lean on.
-  pub rows-valid : Framed f → Kept (row (table f) 6) → Valid (g .operations) (g .edges) (g .from) (g .to)
+  pub rows-valid : Framed f → Kept (row (table f) 6) → Wired (g .operations) (g .edges) (g .from) (g .to)
   rows-valid h k =
       let n = s .operations in
       let m = s .edges in

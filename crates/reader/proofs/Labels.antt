@@ -7,15 +7,15 @@ use native.Mathlib.Omega.{arith}
 use native.Mathlib.Decide.{decLt}
 use Rattle.net.specs.Plan.{Plan}
 use Rattle.file.specs.Labels.{Agree, SameButLabels, SameGraph}
-use Rattle.file.proofs.Order.{sound-framed, given-framed, given-unframed}
+use Rattle.file.proofs.Order.{given-framed, given-unframed, sound-framed}
 use Rattle.file.proofs.Agree.{given-same, sound-same}
 use Rattle.file.proofs.Labels.{one-graph, unframed}
 use Rattle.tables.specs.Filled.{Filled}
-use Rattle.reader.specs.Reply.{Shows, Judged, Beside, LookReply}
+use Rattle.reader.specs.Reply.{Beside, Judged, LookReply, Shows}
 use Rattle.reader.specs.declared.graph.Graph.{Graph}
 use Rattle.reader.specs.declared.graph.Look.{Look}
-use Rattle.reader.specs.declared.graph.Verdict.{Verdict}
-use Rattle.reader.specs.declared.graph.Verdict.the-variants.{Accepted, Refused}
+use Rattle.refusal.specs.declared.Verdict.{Verdict}
+use Rattle.refusal.specs.declared.Verdict.the-variants.{Accepted, Refused}
 
 filled-same : {n room : ℕ} {h k : ℕ → ℕ} {xs : List ℕ} → ((i : ℕ) → i < n → h i ≡ k i) → Filled n room h xs → Filled n room k xs
 filled-same e t = record { long = t .long; used = λ i l. t .used i l ∙ e i l; unused = t .unused }

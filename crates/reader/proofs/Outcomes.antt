@@ -3,14 +3,14 @@ use Prim.Native.Nat.{ℕ}
 use mathlib.Core.Path.{_≡_, ap, subst}
 use mathlib.Core.List.{List}
 use native.Mathlib.Omega.{arith}
-use Rattle.file.specs.Refusals.{Ask, Given}
+use Rattle.refusal.specs.Asking.{Ask, Given}
 use Rattle.reader.specs.Reply.{LookReply}
 use Rattle.file.specs.Labels.{SameButLabels}
 use Rattle.reader.specs.Outcome.{Ends, Outcome, accepted, from10, passed, refused, unread}
 use Rattle.reader.specs.declared.graph.Graph.{Graph}
 use Rattle.reader.specs.declared.graph.Look.{Look}
-use Rattle.reader.specs.declared.graph.Verdict.{Verdict}
-use Rattle.reader.specs.declared.graph.Verdict.the-variants.{Accepted, Refused}
+use Rattle.refusal.specs.declared.Verdict.{Verdict}
+use Rattle.refusal.specs.declared.Verdict.the-variants.{Accepted, Refused}
 use Rattle.file.proofs.Clear.{Clear, clear-more, clear-none}
 use Rattle.reader.proofs.Determined.{look-determined, not-both, same-number, same-place}
 use Rattle.reader.proofs.Labels.{look-label-blind}

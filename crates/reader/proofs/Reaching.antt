@@ -9,17 +9,18 @@ use lib.Dec.{eqb}
 use lib.ListN.{length, length-append}
 use borrow.Author.Tests.{eq-eqb, ne-eqb}
 use Rattle.marked.specs.Sums.{sum}
-use Rattle.marked.specs.Net.{Net, Walk, stop, go, Proper, tokens}
+use Rattle.marked.specs.Net.{Net, Proper, Walk, go, stop, tokens}
 use Rattle.marked.proofs.Decide.{eq?}
 use Rattle.marked.proofs.Walks.{join}
 use Rattle.marked.proofs.Pigeonhole.{sum-append}
 use Rattle.marked.proofs.Alive.{empty-circuit}
-use Rattle.net.specs.Plan.{Plan, Joined, source, along, against, Limited}
+use Rattle.net.specs.Plan.{Joined, Plan, against, along, source}
+use Rattle.net.specs.Good.{Wired}
 use Rattle.net.specs.Ends.{pick}
 use Rattle.net.specs.Graph.{netOf, startOf}
-use Rattle.net.proofs.Shapes.{limited-proper}
-use Rattle.file.specs.Rows.{Alive}
-use Rattle.reader.proofs.Ways.{Way, one, more, way?}
+use Rattle.net.proofs.Shapes.{wired-proper}
+use Rattle.net.specs.Rules.{Alive}
+use Rattle.reader.proofs.Ways.{Way, more, one, way?}
 
 -- Row 8: an edge is two hops, there and back.
 module _ (p : Plan) where
@@ -148,7 +149,7 @@ module _ (g : Net) (m : ℕ → ℕ) where
 module _ (p : Plan) (ok : Limited p) where
   pub not-alive : (t : ℕ) → t < netOf p .transitions → Hops (netOf p) (startOf p) t t → Alive p t → ⊥
   not-alive t l w a =
-      let x = way-walk (netOf p) (startOf p) (limited-proper ok) l w in
+      let x = way-walk (netOf p) (startOf p) (wired-proper ok) l w in
       let d = empty-circuit (startOf p) (x .walk) (x .some) (x .none) in
       omega (arith, a (d .ring) (d .circuit), d .empty)
 
@@ -156,7 +157,7 @@ module _ (p : Plan) (ok : Limited p) where
   is-alive t w ring c = at (ℕ-discrete (tokens (startOf p) ring) 0)
     where
       at : Dec (tokens (startOf p) ring ≡ 0) → 1 ≤ tokens (startOf p) ring
-      at (yes z) = absurd (w (walk-way (netOf p) (startOf p) (limited-proper ok) (c .walk) (c .some) z))
+      at (yes z) = absurd (w (walk-way (netOf p) (startOf p) (wired-proper ok) (c .walk) (c .some) z))
       at (no z) = omega arith
 
   abbrev alive : (t : ℕ) → t < netOf p .transitions → Dec (Hops (netOf p) (startOf p) t t) → Dec (Alive p t)
@@ -164,4 +165,4 @@ module _ (p : Plan) (ok : Limited p) where
   alive t l (no w) = yes (is-alive t w)
 
   abbrev pub alive? : (t : ℕ) → t < netOf p .transitions → Dec (Alive p t)
-  alive? t l = alive t l (way? (netOf p .places) (netOf p .transitions) (leaves (netOf p) (startOf p)) (netOf p .dst) t (limited-proper ok .dst-in) t)
+  alive? t l = alive t l (way? (netOf p .places) (netOf p .transitions) (leaves (netOf p) (startOf p)) (netOf p .dst) t (wired-proper ok .dst-in) t)

@@ -7,24 +7,27 @@ use native.Mathlib.Omega.{arith}
 use lib.Dec.{ltb}
 use lib.ListN.{length, getD, List·getD-eq-default}
 use borrow.Author.Tests.{lt-ltb, le-ltb}
-use Rattle.marked.proofs.Decide.{le?, lt?, given?}
-use Rattle.net.specs.Plan.{Plan, Limited}
+use Rattle.marked.proofs.Decide.{given?, le?, lt?}
+use Rattle.net.specs.Plan.{Plan}
+use Rattle.net.specs.Good.{Wired}
 use Rattle.net.specs.Ends.{pick}
 use Rattle.net.specs.Graph.{netOf}
-use Rattle.file.specs.File.{operationsOf, edgesOf, planOf}
-use Rattle.file.specs.Refusals.{row, Kept}
-use Rattle.file.specs.Rows.{Sized, Signed, Counted, Laid, Framed, Transition, Alive, table}
+use Rattle.file.specs.File.{edgesOf, operationsOf, planOf}
+use Rattle.file.specs.Refusals.{row}
+use Rattle.refusal.specs.Asking.{Kept}
+use Rattle.file.specs.Rows.{Counted, Framed, Laid, Signed, Sized, table}
+use Rattle.net.specs.Rules.{Alive, Transition}
 use Rattle.tables.specs.Filled.{Filled}
-use Rattle.reader.specs.Reply.{Shows, Judged, Beside, LookReply}
+use Rattle.reader.specs.Reply.{Beside, Judged, LookReply, Shows}
 use Rattle.reader.specs.declared.graph.Graph.{Graph}
 use Rattle.reader.specs.declared.graph.Look.{Look}
-use Rattle.reader.specs.declared.graph.Verdict.{Verdict}
-use Rattle.reader.specs.declared.graph.Verdict.the-variants.{Accepted, Refused}
+use Rattle.refusal.specs.declared.Verdict.{Verdict}
+use Rattle.refusal.specs.declared.Verdict.the-variants.{Accepted, Refused}
 use Rattle.file.proofs.Clear.{Clear, clear-more, given, sound}
-use Rattle.file.proofs.Order.{framed-clear, sound-framed, refused-1, refused-2, refused-3, refused-4}
+use Rattle.file.proofs.Order.{framed-clear, refused-1, refused-2, refused-3, refused-4, sound-framed}
 use Rattle.reader.proofs.Determined.{look-determined}
-use Rattle.reader.proofs.Deciding.{within?, sized?, signed?, counted?, laid?, timely?, allowed?, linked?, Searched, searched}
-use Rattle.reader.proofs.Reaching.{joined?, alive?}
+use Rattle.reader.proofs.Deciding.{Searched, allowed?, counted?, laid?, linked?, searched, signed?, sized?, timely?, within?}
+use Rattle.reader.proofs.Reaching.{alive?, joined?}
 
 -- A verdict that the file is allowed.
 abbrev Verdicts : List ℕ → Type 0

@@ -1,10 +1,11 @@
 -- What an accepted reply tells of its graph, with no word of the file. The crates above lean on this alone (theorem `accepted`).
 use Prim.Native.Nat.{ℕ}
 use Rattle.marked.specs.Circuits.{Live}
-use Rattle.net.specs.Plan.{Joined, Limited, Marked}
+use Rattle.net.specs.Plan.{Joined}
+use Rattle.net.specs.Good.{Marked, Wired}
 use Rattle.net.specs.Graph.{netOf, startOf}
-use Rattle.file.specs.Limits.{OperationCount, EdgeCount}
-use Rattle.file.specs.Rows.{Operation, Node, Timely, Linked}
+use Rattle.net.specs.Limits.{EdgeCount, OperationCount}
+use Rattle.net.specs.Rules.{Linked, Node, Operation, Timely}
 use Rattle.reader.specs.Reply.{shown}
 use Rattle.reader.specs.declared.graph.Graph.{Graph}
 

@@ -2,11 +2,12 @@
 use Prim.Native.Nat.{ℕ}
 use mathlib.Core.Path.{_≡_}
 use mathlib.Core.List.{List, _∷_}
-use Rattle.file.specs.Refusals.{Ask, Given, Sound, nothing}
+use Rattle.refusal.specs.Asking.{Ask, Given, Sound}
+use Rattle.file.specs.Refusals.{nothing}
 use Rattle.reader.specs.Reply.{LookReply}
 use Rattle.reader.specs.declared.graph.Graph.{Graph}
 use Rattle.reader.specs.declared.graph.Look.{Look}
-use Rattle.reader.specs.declared.graph.Verdict.the-variants.{Accepted, Refused}
+use Rattle.refusal.specs.declared.Verdict.the-variants.{Accepted, Refused}
 
 -- A table of further rows, numbered from 10: rows 0 to 9 are look's and ask nothing here.
 abbrev pub from10 : List Ask → List Ask

@@ -3,14 +3,14 @@ use Prim.Native.Nat.{ℕ, _+_}
 use mathlib.Core.Path.{_≡_}
 use mathlib.Core.List.{List}
 use Rattle.net.specs.Plan.{Plan, rows}
-use Rattle.file.specs.File.{operationsOf, edgesOf, planOf}
-use Rattle.file.specs.Refusals.{Given, Sound}
+use Rattle.file.specs.File.{edgesOf, operationsOf, planOf}
+use Rattle.refusal.specs.Asking.{Given, Sound}
 use Rattle.file.specs.Rows.{table}
 use Rattle.tables.specs.Filled.{Filled}
 use Rattle.reader.specs.declared.graph.Graph.{Graph}
 use Rattle.reader.specs.declared.graph.Look.{Look}
-use Rattle.reader.specs.declared.graph.Verdict.{Verdict}
-use Rattle.reader.specs.declared.graph.Verdict.the-variants.{Accepted, Refused}
+use Rattle.refusal.specs.declared.Verdict.{Verdict}
+use Rattle.refusal.specs.declared.Verdict.the-variants.{Accepted, Refused}
 
 -- g shows the first n operations and the first e edges of the plan, and nothing else.
 pub record Shows (p : Plan) (n e : ℕ) (g : Graph) : Type 0 where

@@ -5,11 +5,11 @@ use crate::graph::Verdict;
 use file::frame::Trailer;
 use links::joined::first_apart;
 use links::linked::first_bare;
-use net::Found;
+use refusal::Found;
 use tables::edges::first_wrong;
 use tables::operations::first_late;
-ghost use Rattle.file.specs.File.{operationsOf, edgesOf, planOf};
-ghost use Rattle.reader.specs.Reply.{Shows, Judged};
+ghost use Rattle.file.specs.File.{edgesOf, operationsOf, planOf};
+ghost use Rattle.reader.specs.Reply.{Judged, Shows};
 ghost use Rattle.file.specs.Work.{Opened};
 
 // The lowest of rows 5 to 9 that is broken, or accepted.

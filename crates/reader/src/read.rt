@@ -4,7 +4,7 @@ use file::frame::Trailer;
 use tables::edges::column;
 use tables::operations::times;
 ghost use Rattle.net.specs.Plan.{Plan};
-ghost use Rattle.file.specs.File.{operationsOf, edgesOf, planOf};
+ghost use Rattle.file.specs.File.{edgesOf, operationsOf, planOf};
 ghost use Rattle.reader.specs.Reply.{Shows};
 ghost use Rattle.file.specs.Work.{Opened};
 

@@ -1,5 +1,5 @@
 -- Rows asked one after the other: how what a test or a search answers decides a list of rows.
-use mathlib.Core.Path.{_≡_, refl, sym}
+use mathlib.Core.Path.{_≡_, refl, subst, sym}
 use mathlib.Core.Logic.{_⊎_, inl, inr}
 use mathlib.Core.List.{List, [], _++_, _∷_}
 use Prim.Native.Nat.{ℕ, _<_}
@@ -7,6 +7,7 @@ use native.Mathlib.Omega.{arith}
 use Rattle.refusal.specs.Asking.{AllKept, Ask, FirstBroken, Given, Judged, Kept, Lowest, Sound, accepted, asked, refused}
 use Rattle.refusal.specs.declared.Refusal.{Refusal}
 use Rattle.refusal.specs.declared.Verdict.{Verdict}
+use Rattle.refusal.specs.declared.Verdict.the-variants.{Refused}
 
 -- A rule of the whole that fails is broken at 0.
 pub lowest-whole : {k : ℕ} {P : Type 0} → (P → ⊥) → Lowest (asked k P) 0
@@ -19,6 +20,10 @@ sound-none = record { kept = tt }
 -- The first row is broken: its refusal is given.
 pub given-here : {a : Ask} {rows : List Ask} (r : Refusal) → a .number ≡ r .number → Lowest a (r .place) → Given (a ∷ rows) r
 given-here r e p = record { first = inl (e, p) }
+
+-- A verdict that tells the refusal that is given.
+pub judged-refused : {rows : List Ask} {v : Verdict} (r : Refusal) → v ≡ Refused r → Given rows r → Judged rows v
+judged-refused {rows} r e p = subst (λ (w : Verdict). Judged rows w) (sym e) (refused p)
 
 -- The first row is kept: what follows decides.
 pub given-next : {a : Ask} {rows : List Ask} {r : Refusal} → Kept a → Given rows r → Given (a ∷ rows) r

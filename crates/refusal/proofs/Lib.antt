@@ -1,3 +1,4 @@
 pub mod Determined
 pub mod Asked
 pub mod Answers
+pub mod Same

@@ -1,4 +1,7 @@
 // Refusals: rows asked in order, each carrying its number, and what tests and searches of a row answer. Lowest of all crates.
+ghost use mathlib.Core.Path.{_≡_};
+ghost use Prim.Native.Nat.{_<_};
+ghost use Rattle.refusal.specs.declared.Verdict.the-variants.{Refused};
 
 // The number of the rule that is broken, and the place that it reports.
 pub struct Refusal {
@@ -16,4 +19,15 @@ pub enum Verdict {
 pub enum Found {
     At(usize),
     Nothing,
+}
+
+// The refusal by a number, at a place.
+pub fn refuse(number: u8, place: usize) -> Verdict
+    requires { ⌜ place < 65536 ⌝ }
+    ensures { λ r. ⌜ r ≡ Refused (record { number = number; place = place }) ⌝ }
+{
+    Verdict::Refused(Refusal {
+        number: number,
+        place: place as u16,
+    })
 }

@@ -2,14 +2,15 @@
 use file::frame::Trailer;
 use little::byte;
 use net::EDGES;
-use net::Found;
+use refusal::Found;
 ghost use mathlib.Core.Path.{_≡_};
 ghost use Prim.Native.Nat.{_<_};
-ghost use Rattle.net.specs.Work.{Says};
-ghost use Rattle.file.specs.File.{edgesOf, edgeByte};
+ghost use Rattle.refusal.specs.helpers.Answers.{Finds, Says};
+ghost use Rattle.file.specs.File.{edgeByte, edgesOf};
 ghost use Rattle.file.specs.Refusals.{row};
-ghost use Rattle.file.specs.Rows.{Allowed, table};
-ghost use Rattle.file.specs.Work.{Finds, Opened};
+ghost use Rattle.net.specs.Rules.{Allowed};
+ghost use Rattle.file.specs.Rows.{table};
+ghost use Rattle.file.specs.Work.{Opened};
 ghost use Rattle.tables.specs.Filled.{Filled};
 
 // Byte k of edge e.

@@ -2,16 +2,17 @@
 use crate::TIME;
 use file::frame::Trailer;
 use little::quad;
-use net::Found;
+use refusal::Found;
 use net::OPERATIONS;
 ghost use mathlib.Core.Path.{_≡_};
 ghost use Prim.Native.Nat.{_+_};
-ghost use Rattle.net.specs.Work.{Says};
-ghost use Rattle.file.specs.Limits.{Within};
-ghost use Rattle.file.specs.File.{operationsOf, timeIn, planOf};
+ghost use Rattle.refusal.specs.helpers.Answers.{Finds, Says};
+ghost use Rattle.net.specs.Limits.{Within};
+ghost use Rattle.file.specs.File.{operationsOf, planOf, timeIn};
 ghost use Rattle.file.specs.Refusals.{row};
-ghost use Rattle.file.specs.Rows.{Timely, table};
-ghost use Rattle.file.specs.Work.{Finds, Opened};
+ghost use Rattle.net.specs.Rules.{Timely};
+ghost use Rattle.file.specs.Rows.{table};
+ghost use Rattle.file.specs.Work.{Opened};
 ghost use Rattle.tables.specs.Filled.{Filled};
 
 // The time of operation i.

@@ -1,5 +1,5 @@
 -- The loop has compared every byte before i; a byte that differs breaks the rule.
-use Rattle.net.specs.Work.{holds, fails}
+use Rattle.refusal.specs.helpers.Answers.{fails, holds}
 use Prim.Native.Nat.{ℕ, _≤_, _<_, _-_, _+_}
 use mathlib.Core.Path.{_≡_, sym, _∙_}
 use borrow.Author.Count.{below-more}
@@ -7,7 +7,7 @@ use lib.ListN.{length, getD}
 use borrow.Author.Needs.{needs}
 use native.Mathlib.Omega.{arith}
 use Rattle.little.specs.Little.{byteAt}
-use Rattle.file.specs.Rows.{magic}
+use Rattle.file.specs.Frame.{magic}
 use Rattle.file.proofs.frame.ends.Statement.{statement}
 use Rattle.file.proofs.frame.ends.Tie as tie
 

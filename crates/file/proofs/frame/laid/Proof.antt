@@ -1,5 +1,5 @@
 -- Each return is one part of the rule that fails, or the whole of it; the order of the tables goes by cases.
-use Rattle.net.specs.Work.{holds, fails}
+use Rattle.refusal.specs.helpers.Answers.{fails, holds}
 use native.Mathlib.Omega.{arith}
 use mathlib.Core.Logic.{_⊎_, inl, inr, ⊎-elim}
 use Rattle.file.specs.File.{trailerAt}

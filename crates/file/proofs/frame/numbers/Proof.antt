@@ -1,5 +1,5 @@
 -- Each number is the word that its definition names.
-use Rattle.file.specs.File.{trailerAt, operationsAt, operationsOf, edgesAt, edgesOf, backOf}
+use Rattle.file.specs.File.{backOf, edgesAt, edgesOf, operationsAt, operationsOf, trailerAt}
 use borrow.Author.Needs.{needs}
 use Rattle.file.proofs.frame.numbers.Statement.{statement}
 use Rattle.file.proofs.frame.numbers.Tie as tie

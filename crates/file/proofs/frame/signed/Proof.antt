@@ -1,8 +1,8 @@
 -- The two bytes and the ending, one after the other.
-use Rattle.net.specs.Work.{fails}
+use Rattle.refusal.specs.helpers.Answers.{fails}
 use mathlib.Core.Path.{sym, _∙_}
 use Rattle.file.specs.File.{trailerAt}
-use Rattle.net.proofs.Answers.{says-map}
+use Rattle.refusal.proofs.Answers.{says-map}
 use borrow.Author.Needs.{needs}
 use Rattle.file.proofs.frame.signed.Statement.{statement}
 use Rattle.file.proofs.frame.signed.Tie as tie

@@ -3,9 +3,9 @@ use Prim.Native.Nat.{ℕ, _≤_, _<_, _-_, _+_}
 use native.Mathlib.Omega.{arith}
 use borrow.Author.Count.{below-more}
 use Rattle.net.specs.Plan.{Joined}
-use Rattle.file.specs.Rows.{Node}
+use Rattle.net.specs.Rules.{Node}
 use Rattle.links.specs.Work.{wires}
-use Rattle.links.proofs.Reach.{valid-ended, marked-joined, joined-marked}
+use Rattle.links.proofs.Reach.{joined-marked, marked-joined, valid-ended}
 use Rattle.links.proofs.joined.first_apart.Statement.{statement}
 use Rattle.links.proofs.joined.first_apart.Tie as tie
 

@@ -2,7 +2,7 @@
 use Prim.Native.Nat.{_≤_, _-_}
 use native.Mathlib.Omega.{arith}
 use Rattle.links.specs.Work.{Passed}
-use Rattle.links.proofs.Reach.{passed-none, passed-more, passed-to}
+use Rattle.links.proofs.Reach.{passed-more, passed-none, passed-to}
 use Rattle.links.proofs.joined.pass.Statement.{statement}
 use Rattle.links.proofs.joined.pass.Tie as tie
 

@@ -1,7 +1,7 @@
 -- An even edge leaves the marks as they are; one that is not has one end marked, so both ends are joined and one mark is new.
 use Prim.Native.Nat.{_<_}
 use native.Mathlib.Omega.{arith}
-use Rattle.links.proofs.Reach.{spread-still, spread-more}
+use Rattle.links.proofs.Reach.{spread-more, spread-still}
 use borrow.Author.Needs.{needs}
 use Rattle.links.proofs.joined.spread.Statement.{statement}
 use Rattle.links.proofs.joined.spread.Tie as tie

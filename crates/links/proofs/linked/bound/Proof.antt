@@ -1,8 +1,8 @@
 -- Each return is one of the two marks, where the node needs it.
-use Rattle.net.specs.Work.{holds, fails}
+use Rattle.refusal.specs.helpers.Answers.{fails, holds}
 use Rattle.links.specs.Work.{Bound}
 use native.Mathlib.Omega.{arith}
-use Rattle.net.proofs.Answers.{says-eqb}
+use Rattle.refusal.proofs.Answers.{says-eqb}
 use borrow.Author.Needs.{needs}
 use Rattle.links.proofs.linked.bound.Statement.{statement}
 use Rattle.links.proofs.linked.bound.Tie as tie

@@ -3,9 +3,9 @@ use Prim.Native.Nat.{ℕ, _≤_, _<_, _-_, _+_}
 use native.Mathlib.Omega.{arith}
 use borrow.Author.Count.{below-more}
 use borrow.Author.Tests.{not-true, not-false}
-use Rattle.file.specs.Rows.{Node, Linked}
+use Rattle.net.specs.Rules.{Linked, Node}
 use Rattle.links.specs.Work.{wires}
-use Rattle.net.proofs.Answers.{said, denied}
+use Rattle.refusal.proofs.Answers.{denied, said}
 use Rattle.links.proofs.Reach.{valid-ended}
 use Rattle.links.proofs.Ticking.{bound-linked, linked-bound}
 use Rattle.links.proofs.linked.first_bare.Statement.{statement}

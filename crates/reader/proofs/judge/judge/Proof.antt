@@ -1,13 +1,14 @@
 -- Each search gives its refusal where it finds a place, since the rows before it are kept; where it finds none its own row is kept too.
 use native.Mathlib.Omega.{arith}
 use denote.Ref.{now}
-use Rattle.net.specs.Valid.{Valid}
-use Rattle.file.specs.Refusals.{row, Kept, Lowest}
+use Rattle.net.specs.Good.{Wired}
+use Rattle.file.specs.Refusals.{row}
+use Rattle.refusal.specs.Asking.{Kept, Lowest}
 use Rattle.file.specs.Rows.{table}
 use Rattle.file.proofs.Answers.{finds-at, finds-none}
 use Rattle.file.proofs.Order.{framed-clear}
 use Rattle.file.proofs.Clear.{Clear, clear-more, given, sound}
-use Rattle.reader.proofs.Judging.{finds-bare, finds-apart, finds-dead, rows-valid, rows-marked}
+use Rattle.reader.proofs.Judging.{finds-apart, finds-bare, finds-dead, rows-marked, rows-valid}
 use borrow.Author.Needs.{needs}
 use Rattle.reader.proofs.judge.judge.Statement.{statement}
 use Rattle.reader.proofs.judge.judge.Tie as tie
@@ -55,7 +56,7 @@ wrong c =
     finds-at (row (table (now (start-5 (c .before .before .before .before) .args .file))) 6) (c .before .before .before .first-wrong .result) (c .before .wrong .given .1) (c .before .before .before .first-wrong .ensures)
 
 -- So the rows are such as the searches over the graph need.
-valid : (c : tie.After-enum-told2) → Valid (start-6 c .args .t3 .operations) (start-6 c .args .t3 .edges) (start-6 c .args .t3 .from) (start-6 c .args .t3 .to)
+valid : (c : tie.After-enum-told2) → Wired (start-6 c .args .t3 .operations) (start-6 c .args .t3 .edges) (start-6 c .args .t3 .from) (start-6 c .args .t3 .to)
 valid c = rows-valid (now (start-6 c .args .file)) (start-6 c .args .t3) (start-6 c .pre .1) (start-6 c .pre .0 .framed) (kept-wrong c)
 
 no-bare : (c : tie.After-enum-told3) → Clear (table (now (start-7 c .args .file))) 8

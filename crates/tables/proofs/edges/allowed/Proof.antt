@@ -1,5 +1,5 @@
 -- The five tests of an edge, one after the other.
-use Rattle.net.specs.Work.{holds, fails}
+use Rattle.refusal.specs.helpers.Answers.{fails, holds}
 use native.Mathlib.Omega.{arith}
 use borrow.Author.Needs.{needs}
 use Rattle.tables.proofs.edges.allowed.Statement.{statement}

@@ -1,5 +1,5 @@
 -- The loop fills the entries from the front, and those behind are 0.
-use Rattle.tables.proofs.Filling.{filled-none, filled-more, filled-all}
+use Rattle.tables.proofs.Filling.{filled-all, filled-more, filled-none}
 use Prim.Native.Nat.{_≤_, _-_}
 use native.Mathlib.Omega.{arith}
 use borrow.Author.Needs.{needs}
