@@ -1,11 +1,15 @@
 // Rows 1 to 4: the length, the signature, the counts and where the tables stand.
+use crate::EDGE;
 use crate::LENGTH;
 use crate::MAGIC;
+use crate::OPERATION;
 use crate::SHORTEST;
 use crate::TRAILER;
 use little::byte;
 use little::word;
 use net::EDGES;
+use net::FEWEST_EDGES;
+use net::FEWEST_OPERATIONS;
 use net::OPERATIONS;
 use refusal::Verdict;
 use refusal::refuse;
@@ -88,13 +92,13 @@ fn counted(file: &[u8]) -> bool
     ensures { λ r. ⌜ Says (CountsKept (now (file .entry))) r ⌝ }
 {
     let t = numbers(file);
-    if t.operations < 1 {
+    if t.operations < FEWEST_OPERATIONS {
         return false;
     }
     if OPERATIONS < t.operations {
         return false;
     }
-    if t.edges < 2 {
+    if t.edges < FEWEST_EDGES {
         return false;
     }
     if EDGES < t.edges {
@@ -111,8 +115,8 @@ fn laid(file: &[u8]) -> bool
 {
     let t = numbers(file);
     let before = file.len() - TRAILER;
-    let operations = 12 * t.operations;
-    let edges = 4 * t.edges;
+    let operations = OPERATION * t.operations;
+    let edges = EDGE * t.edges;
     if t.back != before {
         return false;
     }

@@ -1,8 +1,13 @@
-// A file: where its numbers stand, the table of refusals, and its frame, rows 1 to 4.
+// A file: where its numbers stand, and its frame, rows 1 to 4.
 pub mod frame;
 
 // A file ends with its trailer.
 pub const TRAILER: usize = 16;
+
+// The bytes of an operation's record, and of an edge's.
+pub const OPERATION: usize = 12;
+
+pub const EDGE: usize = 4;
 
 // The shortest file is a trailer alone, and too short for a table.
 pub const SHORTEST: usize = TRAILER;

@@ -12,13 +12,13 @@ use lib.Seq.{getD-set-other}
 use Rattle.marked.specs.Net.{at}
 use Rattle.net.specs.Plan.{Joined, against, along, source}
 use Rattle.net.specs.Good.{Wired}
-use Rattle.links.specs.Work.{Ended, Even, Marks, Passed, Reached, Spread, missing, wires}
-use Rattle.file.proofs.Alike.{SameEdges, joined-same}
+use Rattle.net.specs.Plan.{wires}
+use Rattle.links.specs.helpers.Ticks.{Ended, Even, Marks, Passed, Reached, Spread, missing}
 use Rattle.marked.proofs.Fresh.{zeros}
 
 -- Rows within the limits have room for their ends among the marks.
-pub valid-ended : {n e : ℕ} {from to : List ℕ} → Wired n e from to → Ended e from to
-valid-ended ok = record { edges = ok .edges; leaves = λ k l. omega (arith, ok .operations, ok .leaves k l); enters = λ k l. omega (arith, ok .operations, ok .ends k l) }
+pub wired-ended : {n e : ℕ} {from to : List ℕ} → Wired n e from to → Ended e from to
+wired-ended ok = record { edges = ok .edges; leaves = λ k l. omega (arith, ok .operations, ok .leaves k l); enters = λ k l. omega (arith, ok .operations, ok .ends k l) }
 
 missing-set : (xs : List ℕ) (i : ℕ) → missing (set xs i 1) ≤ missing xs
 unfolding missing
@@ -58,10 +58,6 @@ set-sound P seen i j h n e = go (ℕ-discrete n i)
     go : Dec (n ≡ i) → P n
     go (yes p) = subst P (sym p) j
     go (no p) = h n (sym (getD-set-other seen i n 1 0 p) ∙ e)
-
--- How many operations there are plays no part in which nodes are joined.
-counts : (m n e : ℕ) (from to : List ℕ) → SameEdges (wires m e from to) (wires n e from to)
-counts m n e from to = record { edges = refl; from = λ k l. refl; to = λ k l. refl }
 
 module _ {e : ℕ} {from to : List ℕ} where
   reached-mark : {seen : List ℕ} (i : ℕ) → Joined (wires 0 e from to) i → Reached e from to seen → Reached e from to (set seen i 1)
@@ -139,9 +135,3 @@ module _ {e : ℕ} {from to : List ℕ} where
       whole n source = h .reached .start
       whole n (along k l j) = sym (level k l) ∙ whole (at from k) j
       whole n (against k l j) = level k l ∙ whole (at to k) j
-
-  pub marked-joined : {seen : List ℕ} {n x : ℕ} → Marks e from to seen → at seen x ≡ 1 → Joined (wires n e from to) x
-  marked-joined {n} {x} h p = joined-same (counts 0 n e from to) x (h .sound x p)
-
-  pub joined-marked : {seen : List ℕ} {n x : ℕ} → Marks e from to seen → Joined (wires n e from to) x → at seen x ≡ 1
-  joined-marked {n} {x} h j = h .whole x (joined-same (counts n 0 e from to) x j)

@@ -8,7 +8,8 @@ use lib.ListN.{length, set, replicate}
 use lib.Seq.{getD-set-same}
 use Rattle.marked.specs.Net.{at}
 use Rattle.net.specs.Rules.{Linked, Touched}
-use Rattle.links.specs.Work.{Bound, Ticks, wires}
+use Rattle.net.specs.Plan.{wires}
+use Rattle.links.specs.helpers.Ticks.{Bound, Ticks}
 use Rattle.marked.proofs.Fresh.{zeros}
 use Rattle.links.proofs.Reach.{set-marked, set-sound}
 

@@ -5,12 +5,11 @@ use refusal::Found;
 use net::NODES;
 ghost use mathlib.Core.Bool.{false};
 ghost use Prim.Native.Nat.{_+_, _<_};
-ghost use Rattle.net.specs.Plan.{Joined};
 ghost use Rattle.net.specs.Good.{Wired};
-ghost use Rattle.refusal.specs.Asking.{askedOf};
-ghost use Rattle.net.specs.Rules.{Node};
+ghost use Rattle.net.specs.Rules.{row8};
 ghost use Rattle.refusal.specs.helpers.Answers.{Finds};
-ghost use Rattle.links.specs.Work.{Ended, Marks, Passed, Reached, Spread, wires};
+ghost use Rattle.net.specs.Plan.{wires};
+ghost use Rattle.links.specs.helpers.Ticks.{Ended, Marks, Passed, Reached, Spread};
 
 // Where one end of edge k is marked, the other is marked too. The answer is whether a node has been marked, now or before.
 fn spread(
@@ -65,7 +64,7 @@ fn reach(e: usize, from: &[u8; EDGES], to: &[u8; EDGES]) -> [u8; NODES]
 // The lowest node that is not joined to the source.
 pub fn first_apart<'a>(n: usize, e: usize, from: &'a [u8; EDGES], to: &'a [u8; EDGES]) -> Found
     requires { ⌜ Wired n e (now from) (now to) ⌝ }
-    ensures { λ r. ⌜ Finds (each (Node (wires n e (now (from .entry)) (now (to .entry)))) (Joined (wires n e (now (from .entry)) (now (to .entry))))) r ⌝ }
+    ensures { λ r. ⌜ Finds (row8 (wires n e (now (from .entry)) (now (to .entry)))) r ⌝ }
 {
     let seen = reach(e, from, to);
     let last = n + 1;

@@ -5,10 +5,10 @@ use net::NODES;
 ghost use mathlib.Core.Path.{_≡_};
 ghost use Prim.Native.Nat.{_≤_};
 ghost use Rattle.net.specs.Good.{Wired};
-ghost use Rattle.refusal.specs.Asking.{askedOf};
-ghost use Rattle.net.specs.Rules.{Linked, Node};
+ghost use Rattle.net.specs.Rules.{row7};
 ghost use Rattle.refusal.specs.helpers.Answers.{Finds, Says};
-ghost use Rattle.links.specs.Work.{Bound, Roomy, Ticks, wires};
+ghost use Rattle.net.specs.Plan.{wires};
+ghost use Rattle.links.specs.helpers.Ticks.{Bound, Roomy, Ticks};
 
 // A node's byte as an index.
 pub fn wide(x: u8) -> usize
@@ -52,7 +52,7 @@ fn bound(n: usize, node: usize, out: u8, into: u8) -> bool
 // The lowest node that lacks an edge out or in.
 pub fn first_bare<'a>(n: usize, e: usize, from: &'a [u8; EDGES], to: &'a [u8; EDGES]) -> Found
     requires { ⌜ Wired n e (now from) (now to) ⌝ }
-    ensures { λ r. ⌜ Finds (each (Node (wires n e (now (from .entry)) (now (to .entry)))) (Linked (wires n e (now (from .entry)) (now (to .entry))))) r ⌝ }
+    ensures { λ r. ⌜ Finds (row7 (wires n e (now (from .entry)) (now (to .entry)))) r ⌝ }
 {
     let out = tick(e, from);
     let into = tick(e, to);

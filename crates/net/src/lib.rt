@@ -3,10 +3,19 @@ pub mod distances;
 pub mod ends;
 pub mod start;
 
-// Room for every operation, edge, node, transition and place that the limits allow.
+// The fewest and the most operations and edges: arrays have room for the most.
+pub const FEWEST_OPERATIONS: usize = 1;
+
 pub const OPERATIONS: usize = 40;
 
+pub const FEWEST_EDGES: usize = 2;
+
 pub const EDGES: usize = 128;
+
+// The shortest and the longest time of an operation.
+pub const SHORTEST_TIME: u32 = 1;
+
+pub const TIME: u32 = 1_000_000;
 
 // The source, the operations and the sink.
 pub const NODES: usize = OPERATIONS + 2;

@@ -4,8 +4,8 @@ use native.Mathlib.Omega.{arith}
 use borrow.Author.Count.{below-more}
 use Rattle.net.specs.Plan.{Joined}
 use Rattle.net.specs.Rules.{Node}
-use Rattle.links.specs.Work.{wires}
-use Rattle.links.proofs.Reach.{joined-marked, marked-joined, valid-ended}
+use Rattle.net.specs.Plan.{wires}
+use Rattle.links.proofs.Reach.{wired-ended}
 use Rattle.links.proofs.joined.first_apart.Statement.{statement}
 use Rattle.links.proofs.joined.first_apart.Tie as tie
 
@@ -16,7 +16,7 @@ abbrev μ-loop : tie.MeasureT-loop
 μ-loop n e from to seen last node₀ node = last + 1 - node
 
 reach-requires : tie.Need-reach-requires Inv-loop μ-loop
-reach-requires c κs = valid-ended (c .pre)
+reach-requires c κs = wired-ended (c .pre)
 
 add-last : tie.Need-add-last Inv-loop μ-loop
 add-last c = omega (arith, c .before .pre .operations)
@@ -28,7 +28,7 @@ array-read-if1 : tie.Need-array-read-if1 Inv-loop μ-loop
 array-read-if1 c = omega (arith, c .before .before .before .pre .operations)
 
 returns : tie.Need-returns Inv-loop μ-loop
-returns c = record { broken = (omega arith, λ j. c .if1 .taken (joined-marked (c .before .before .before .reach .ensures) j)); lower = c .before .before .loop .inv .1 }
+returns c = record { place = omega arith; broken = λ j. c .if1 .taken (c .before .before .before .reach .ensures .whole _ j); lower = c .before .before .loop .inv .1 }
 
 add-node : tie.Need-add-node Inv-loop μ-loop
 add-node c = omega arith
@@ -37,7 +37,7 @@ loop-less : tie.Need-loop-less Inv-loop μ-loop
 loop-less c = omega arith
 
 loop-again : tie.Need-loop-again Inv-loop μ-loop
-loop-again c = (omega arith, below-more _ _ (c .before .before .loop .inv .1) (λ d. marked-joined (c .before .before .before .reach .ensures) (c .if1 .left)))
+loop-again c = (omega arith, below-more _ _ (c .before .before .loop .inv .1) (λ d. c .before .before .before .reach .ensures .sound _ (c .if1 .left)))
 
 returns-2 : tie.Need-returns-2 Inv-loop μ-loop
 returns-2 c = λ y d. c .before .loop .inv .1 y (omega arith) d

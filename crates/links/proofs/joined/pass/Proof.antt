@@ -1,7 +1,7 @@
 -- What the edges so far have done to the marks, one edge more a turn.
 use Prim.Native.Nat.{_≤_, _-_}
 use native.Mathlib.Omega.{arith}
-use Rattle.links.specs.Work.{Passed}
+use Rattle.links.specs.helpers.Ticks.{Passed}
 use Rattle.links.proofs.Reach.{passed-more, passed-none, passed-to}
 use Rattle.links.proofs.joined.pass.Statement.{statement}
 use Rattle.links.proofs.joined.pass.Tie as tie

@@ -1,6 +1,6 @@
 -- Each pass but the last marks a node, so the unmarked ones get fewer; after the last, every edge is even.
 use borrow.Author.Needs.{needs}
-use Rattle.links.specs.Work.{Reached, missing}
+use Rattle.links.specs.helpers.Ticks.{Reached, missing}
 use Rattle.links.proofs.Reach.{marked-all, reached-start}
 use Rattle.links.proofs.joined.reach.Statement.{statement}
 use Rattle.links.proofs.joined.reach.Tie as tie

@@ -1,6 +1,6 @@
 -- Each return is one of the two marks, where the node needs it.
 use Rattle.refusal.specs.helpers.Answers.{fails, holds}
-use Rattle.links.specs.Work.{Bound}
+use Rattle.links.specs.helpers.Ticks.{Bound}
 use native.Mathlib.Omega.{arith}
 use Rattle.refusal.proofs.Answers.{says-eqb}
 use borrow.Author.Needs.{needs}

@@ -4,9 +4,9 @@ use native.Mathlib.Omega.{arith}
 use borrow.Author.Count.{below-more}
 use borrow.Author.Tests.{not-true, not-false}
 use Rattle.net.specs.Rules.{Linked, Node}
-use Rattle.links.specs.Work.{wires}
+use Rattle.net.specs.Plan.{wires}
 use Rattle.refusal.proofs.Answers.{denied, said}
-use Rattle.links.proofs.Reach.{valid-ended}
+use Rattle.links.proofs.Reach.{wired-ended}
 use Rattle.links.proofs.Ticking.{bound-linked, linked-bound}
 use Rattle.links.proofs.linked.first_bare.Statement.{statement}
 use Rattle.links.proofs.linked.first_bare.Tie as tie
@@ -18,10 +18,10 @@ abbrev μ-loop : tie.MeasureT-loop
 μ-loop n e from to out into last node₀ node = last + 1 - node
 
 tick-requires : tie.Need-tick-requires Inv-loop μ-loop
-tick-requires c κs = (c .pre .edges, valid-ended (c .pre) .leaves)
+tick-requires c κs = (c .pre .edges, wired-ended (c .pre) .leaves)
 
 tick-requires-2 : tie.Need-tick-requires-2 Inv-loop μ-loop
-tick-requires-2 c κs = (c .before .pre .edges, valid-ended (c .before .pre) .enters)
+tick-requires-2 c κs = (c .before .pre .edges, wired-ended (c .before .pre) .enters)
 
 add-last : tie.Need-add-last Inv-loop μ-loop
 add-last c = omega (arith, c .before .before .pre .operations)
@@ -39,7 +39,7 @@ bound-requires : tie.Need-bound-requires Inv-loop μ-loop
 bound-requires c κs = tt
 
 returns : tie.Need-returns Inv-loop μ-loop
-returns c = record { broken = (omega arith, λ h. denied (c .before .bound .ensures) (not-true _ (c .if1 .taken)) (linked-bound (c .before .before .before .before .before .tick .ensures) (c .before .before .before .before .tick2 .ensures) h)); lower = c .before .before .before .loop .inv .1 }
+returns c = record { place = omega arith; broken = λ h. denied (c .before .bound .ensures) (not-true _ (c .if1 .taken)) (linked-bound (c .before .before .before .before .before .tick .ensures) (c .before .before .before .before .tick2 .ensures) h); lower = c .before .before .before .loop .inv .1 }
 
 add-node : tie.Need-add-node Inv-loop μ-loop
 add-node c = omega arith

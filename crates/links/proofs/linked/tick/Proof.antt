@@ -3,7 +3,7 @@ use Prim.Native.Nat.{_≤_, _<_, _-_}
 use mathlib.Core.Path.{_≡_, refl}
 use native.Mathlib.Omega.{arith}
 use lib.ListN.{length, length-set}
-use Rattle.links.specs.Work.{Ticks}
+use Rattle.links.specs.helpers.Ticks.{Ticks}
 use Rattle.links.proofs.Ticking.{ticks-more, ticks-none, ticks-to}
 use Rattle.links.proofs.linked.tick.Statement.{statement}
 use Rattle.links.proofs.linked.tick.Tie as tie

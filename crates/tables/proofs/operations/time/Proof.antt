@@ -1,7 +1,7 @@
 -- The record of an operation lies inside the file.
 use native.Mathlib.Omega.{arith}
 use Rattle.file.proofs.Inside.{operation-inside}
-use Rattle.file.specs.File.{timeIn}
+use Rattle.file.specs.File.{operationTime}
 use borrow.Author.Needs.{needs}
 use Rattle.tables.proofs.operations.time.Statement.{statement}
 use Rattle.tables.proofs.operations.time.Tie as tie
@@ -19,7 +19,7 @@ quad-requires : tie.Need-quad-requires
 quad-requires c κs = omega (arith, operation-inside _ (c .before .before .pre .0 .framed) _ (c .before .before .pre .1))
 
 returns : tie.Need-returns
-unfolding timeIn
+unfolding operationTime
 returns c = rw (c .before .before .before .pre .0 .numbers .optable) at (c .quad .ensures)
 
 pub time-spec : {M : Type 1} → statement M

@@ -4,12 +4,12 @@ use Prim.Native.Nat.{_≤_, _-_, _+_}
 use native.Mathlib.Omega.{arith}
 use borrow.Author.Needs.{needs}
 use Rattle.tables.specs.Filled.{Filled}
-use Rattle.file.specs.File.{timeIn}
+use Rattle.file.specs.File.{operationTime}
 use Rattle.tables.proofs.operations.times.Statement.{statement}
 use Rattle.tables.proofs.operations.times.Tie as tie
 
 abbrev Inv-loop : tie.InvT-loop
-Inv-loop file t n xs₀ i₀ xs i = (i ≤ n) × Filled i 40 (λ y. timeIn file (y + 1)) xs
+Inv-loop file t n xs₀ i₀ xs i = (i ≤ n) × Filled i 40 (λ y. operationTime file (y + 1)) xs
 
 abbrev μ-loop : tie.MeasureT-loop
 μ-loop file t n xs₀ i₀ xs i = n - i

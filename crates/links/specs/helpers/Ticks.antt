@@ -1,16 +1,12 @@
--- What the searches of rows 7 and 8 read, and what their marks mean. No public promise needs these.
+-- What the marks of the searches of rows 7 and 8 mean.
 use Prim.Native.Nat.{ℕ, zero, suc, _≤_, _<_}
 use mathlib.Core.Path.{_≡_}
 use mathlib.Core.Bool.{Bool, true, false}
 use mathlib.Core.List.{List, [], _∷_}
 use lib.ListN.{length}
 use Rattle.marked.specs.Net.{at}
-use Rattle.net.specs.Plan.{Joined, Plan, rows}
+use Rattle.net.specs.Plan.{Joined, wires}
 use Rattle.net.specs.Rules.{Touched}
-
--- The plan of rows without times and marks: what rows 7 and 8 read.
-abbrev pub wires : ℕ → ℕ → List ℕ → List ℕ → Plan
-wires n e from to = rows n e [] from to []
 
 -- Each of the first e entries is a node that some graph may have: there is room for it among the marks.
 abbrev pub Roomy : ℕ → List ℕ → Type 0
