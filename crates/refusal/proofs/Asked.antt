@@ -5,6 +5,9 @@ use mathlib.Core.List.{List, [], _++_, _∷_}
 use Prim.Native.Nat.{ℕ, _<_}
 use native.Mathlib.Omega.{arith}
 use Rattle.refusal.specs.Asking.{AllKept, Ask, FirstBroken, Given, Judged, Kept, Lowest, Sound, accepted, asked, refused}
+use Rattle.refusal.specs.helpers.Answers.{Finds}
+use Rattle.refusal.specs.declared.Found.{Found}
+use Rattle.refusal.specs.declared.Found.the-variants.{At, Nothing}
 use Rattle.refusal.specs.declared.Refusal.{Refusal}
 use Rattle.refusal.specs.declared.Verdict.{Verdict}
 use Rattle.refusal.specs.declared.Verdict.the-variants.{Refused}
@@ -60,3 +63,11 @@ sound-parts (a ∷ rows) more p = rest (sound-parts rows more (record { kept = p
   where
     rest : Sound rows × Sound more → Sound (a ∷ rows) × Sound more
     rest q = (sound-next (p .kept .0) (q .0), q .1)
+
+-- What a search answers, where it is known: the row's lowest place, and so its refusal,
+pub found-at : (a : Ask) (r : Found) {x : ℕ} → r ≡ At x → Finds a r → Lowest a x
+found-at a r e h = subst (Finds a) e h
+
+-- or that the row is kept.
+pub found-none : (a : Ask) (r : Found) → r ≡ Nothing → Finds a r → Kept a
+found-none a r e h = subst (Finds a) e h

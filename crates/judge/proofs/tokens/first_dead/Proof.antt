@@ -1,10 +1,10 @@
 -- The marking that is searched is the start, so the dead transitions that are found are row 9's.
 use native.Mathlib.Omega.{arith}
 use denote.Ref.{now}
-use Rattle.reader.proofs.Dying.{finds-first}
+use Rattle.judge.proofs.Dying.{finds-first}
 use borrow.Author.Needs.{needs}
-use Rattle.reader.proofs.alive.first_dead.Statement.{statement}
-use Rattle.reader.proofs.alive.first_dead.Tie as tie
+use Rattle.judge.proofs.tokens.first_dead.Statement.{statement}
+use Rattle.judge.proofs.tokens.first_dead.Tie as tie
 
 slice-aggregate-start-marking : tie.Need-slice-aggregate-start-marking
 slice-aggregate-start-marking c = search needs

@@ -1,0 +1,22 @@
+use borrow.Author.Needs.{needs}
+use native.Mathlib.Omega.{arith}
+use Rattle.refusal.specs.helpers.Answers.{fails, holds}
+use Rattle.judge.proofs.operations.timely.Statement.{statement}
+use Rattle.judge.proofs.operations.timely.Tie as tie
+use Rattle.judge.proofs.operations.timely.Reads as reads
+use Rattle.judge.proofs.operations.timely.Lts as lts
+
+-- src/operations.rt:18:9
+returns : tie.Need-returns
+returns c = fails (λ h. omega arith)
+
+-- src/operations.rt:21:9
+returns-2 : tie.Need-returns-2
+returns-2 c = fails (λ h. omega arith)
+
+-- src/operations.rt:14:1
+returns-3 : tie.Need-returns-3
+returns-3 c = holds (search needs)
+
+pub timely-spec : {M : Type 1} → statement M
+timely-spec = tie.close (tie.spec returns returns-2 returns-3)
