@@ -1,1 +1,4 @@
 pub mod Dying
+pub mod Ways
+pub mod Reaching
+pub mod Deciding

@@ -1,105 +1,42 @@
--- What an accepted reply gives to the crates above, over its graph alone.
-use Prim.Native.Nat.{ℕ, _+_, _-_, _≤_, _<_}
-use mathlib.Core.Path.{_≡_, refl, sym, _∙_, subst, ap}
+-- What an accepted reply gives to the crates above: its graph is good.
+use mathlib.Core.Path.{_≡_, subst}
 use mathlib.Core.List.{List}
-use native.Mathlib.Omega.{arith}
-use lib.ListN.{length}
-use Rattle.marked.specs.Net.{Net, Proper, Walk, at, go, stop}
-use Rattle.marked.specs.Circuits.{Live}
-use Rattle.marked.proofs.Shorten.{live-by-circuits}
-use Rattle.net.specs.Plan.{Plan}
-use Rattle.net.specs.Good.{Good, Marked, Wired}
-use Rattle.net.specs.Graph.{netOf, startOf}
-use Rattle.net.proofs.Shapes.{wired-proper}
-use Rattle.net.specs.Limits.{Within}
+use Prim.Native.Nat.{ℕ}
+use Rattle.refusal.specs.Asking.{Judged, Sound}
+use Rattle.refusal.specs.declared.Verdict.{Verdict}
+use Rattle.refusal.specs.declared.Verdict.the-variants.{Accepted}
+use Rattle.refusal.proofs.Asked.{judged-after, judged-sound, sound-parts}
+use Rattle.refusal.proofs.Same.{judged-same, sound-same}
+use Rattle.net.specs.Limits.{Counted}
+use Rattle.net.specs.Rules.{graphRows}
+use Rattle.net.specs.Good.{Good}
+use Rattle.net.proofs.Agree.{agree-rows, agree-sym}
+use Rattle.net.proofs.Good.{sound-good}
 use Rattle.file.specs.File.{edgesOf, operationsOf, planOf}
-use Rattle.refusal.specs.Asking.{Sound}
-use Rattle.net.specs.Rules.{Alive, Transition}
-use Rattle.file.specs.Rows.{table}
-use Rattle.reader.specs.Reply.{Beside, Judged, LookReply, Shows, shown}
-use Rattle.file.specs.Labels.{Agree}
+use Rattle.file.specs.Frame.{Framed, frameRows, lookRows}
+use Rattle.file.proofs.Order.{framed-sound, sound-framed}
+use Rattle.reader.specs.Reply.{Beside, LookReply, Shows, shown}
 use Rattle.reader.specs.declared.graph.Graph.{Graph}
 use Rattle.reader.specs.declared.graph.Look.{Look}
-use Rattle.refusal.specs.declared.Verdict.{Verdict}
-use Rattle.refusal.specs.declared.Verdict.the-variants.{Accepted as accepted-verdict}
-use Rattle.file.proofs.Alike.{Wired, alive-same, edge-same, joined-same, linked-same, node-same, transition-same, wired-sym}
-use Rattle.file.proofs.Agree.{agree-sym, agree-wired, operation-same, timely-same}
+use Rattle.reader.proofs.Showing.{shown-agrees}
 
--- A circuit leaves from a transition of the net.
-circuit-in : {g : Net} {a b : ℕ} {ps : List ℕ} → Proper g → Walk g a b ps → 1 ≤ length ps → a < g .transitions
-circuit-in ok stop s = absurd (omega arith)
-circuit-in ok (go p l w) s = ok .src-in p l
+-- The verdict on the graph that is read from a framed file is the file's.
+pub judged-shown : (f : List ℕ) {g : Graph} {v : Verdict} → Framed f → Shows (planOf f) (operationsOf f) (edgesOf f) g → Judged (graphRows (shown g)) v → Judged (lookRows f) v
+judged-shown f {g} w s h =
+    judged-after (frameRows f) (graphRows (planOf f)) (framed-sound w) (judged-same (graphRows (shown g)) (graphRows (planOf f)) (agree-rows (shown g) (planOf f) (shown-agrees s)) h)
 
--- With each transition alive, the start is live.
-alive-live : {p : Plan} → Limited p → ((t : ℕ) → Transition p t → Alive p t) → Live (netOf p) (startOf p)
-alive-live {p} ok each =
-    live-by-circuits (netOf p) (startOf p) (λ a ps c. each a (circuit-in (wired-proper ok) (c .walk) (c .some)) ps c)
+-- All rows of look are kept.
+accepted-sound : (f : List ℕ) {v : Verdict} → v ≡ Accepted → Judged (lookRows f) v → Sound (lookRows f)
+accepted-sound f e h = judged-sound (rw e at h)
 
--- The plan that a graph shows agrees with the one it is read from.
-shown-agrees : {p : Plan} {g : Graph} → Shows p (p .operations) (p .edges) g → Agree p (shown g)
-shown-agrees {p} {g} s =
-    record {
-      operations = sym (s .operations);
-      edges = sym (s .edges);
-      time = time-shown;
-      from = λ e l. sym (s .from .used e l);
-      to = λ e l. sym (s .to .used e l);
-      mark = λ e l. sym (s .mark .used e l);
-    }
-  where
-    time-shown : (i : ℕ) → Within 1 (p .operations) i → p .time i ≡ at (g .times) (i - 1)
-    time-shown i w =
-        let e : i - 1 + 1 ≡ i = omega arith in
-        ap (p .time) (sym e) ∙ sym (s .times .used (i - 1) (omega arith))
+-- A graph that is shown has the counts of the file.
+pub shown-counted : (f : List ℕ) {g : Graph} → Counted (operationsOf f) (edgesOf f) → Shows (planOf f) (operationsOf f) (edgesOf f) g → Counted (g .operations) (g .edges)
+shown-counted f c s = rw (s .operations, s .edges) c
 
-module _ (f : List ℕ) (g : Graph) (h : Sound (table f)) (s : Shows (planOf f) (operationsOf f) (edgesOf f) g) where
-  agrees : Agree (planOf f) (shown g)
-  agrees = shown-agrees s
-
-  back : Wired (shown g) (planOf f)
-  back = wired-sym (agree-wired agrees)
-
-  limited : Limited (shown g)
-  limited =
-      let n = s .operations in
-      let m = s .edges in
-      record {
-        operations = omega (arith, h .kept 3 0 refl .operations);
-        edges = omega (arith, h .kept 3 0 refl .edges);
-        leaves = λ e l. omega (arith, h .kept 6 e (edge-same (back .ends) e l) .leaves, s .from .used e (edge-same (back .ends) e l));
-        enters = λ e l. omega (arith, h .kept 6 e (edge-same (back .ends) e l) .enters, s .to .used e (edge-same (back .ends) e l));
-        ends = λ e l. omega (arith, h .kept 6 e (edge-same (back .ends) e l) .enters, s .to .used e (edge-same (back .ends) e l));
-      }
-
-  sound-accepted : Accepted g
-  sound-accepted =
-      record {
-        operations = rw (s .operations) (h .kept 3 0 refl .operations);
-        edges = rw (s .edges) (h .kept 3 0 refl .edges);
-        timely = λ i w. let v = operation-same (agree-sym agrees) i w in timely-same agrees i v (h .kept 5 i v);
-        limited = limited;
-        marked = λ e l. omega (arith, h .kept 6 e (edge-same (back .ends) e l) .marked, s .mark .used e (edge-same (back .ends) e l));
-        linked = λ n l. linked-same (agree-wired agrees) n (h .kept 7 n (node-same back n l));
-        joined = λ n l. joined-same (agree-wired agrees .ends) n (h .kept 8 n (node-same back n l));
-        live = alive-live limited (λ t l. alive-same (agree-wired agrees) (agrees .mark) t (h .kept 9 t (transition-same back t l)));
-      }
-
-module _ (f : List ℕ) (r : Look) (e : r .verdict ≡ accepted-verdict) (h : LookReply f r) where
-  accepted-sound : Sound (table f)
-  accepted-sound = subst (Judged f) e (h .judged)
-
-  accepted-shows : Shows (planOf f) (operationsOf f) (edgesOf f) (r .graph)
-  accepted-shows = subst (λ (v : Verdict). Beside f v (r .graph)) e (h .beside)
-
-  pub accepted : Accepted (r .graph)
-  accepted = sound-accepted f (r .graph) accepted-sound accepted-shows
-
--- What an accepted graph gives to the code that is lent its rows.
-module _ {g : Graph} (a : Accepted g) where
-  pub accepted-valid : Wired (g .operations) (g .edges) (g .from) (g .to)
-  accepted-valid =
-      let l = a .limited in
-      record { operations = l .operations; edges = l .edges; leaves = l .leaves; enters = l .enters; ends = l .ends }
-
-  pub accepted-single : Marked (g .operations) (g .edges) (g .mark)
-  accepted-single = record { operations = a .limited .operations; edges = a .limited .edges; marks = a .marked }
+pub accepted-good : (f : List ℕ) (r : Look) → r .verdict ≡ Accepted → LookReply f r → Good (r .graph .operations) (r .graph .edges) (r .graph .times) (r .graph .from) (r .graph .to) (r .graph .mark) (r .graph .buffers)
+accepted-good f r e h =
+    let parts = sound-parts (frameRows f) (graphRows (planOf f)) (accepted-sound f e (h .judged)) in
+    let shows : Shows (planOf f) (operationsOf f) (edgesOf f) (r .graph) = subst (λ (v : Verdict). Beside f v (r .graph)) e (h .beside) in
+    let counts = shown-counted f (sound-framed (parts .0) .counted) shows in
+    let rows = sound-same (graphRows (planOf f)) (graphRows (shown (r .graph))) (agree-rows (planOf f) (shown (r .graph)) (agree-sym (shown-agrees shows))) (parts .1) in
+    sound-good (r .graph .times) (r .graph .from) (r .graph .to) (r .graph .mark) (r .graph .buffers) (counts .operations) (counts .edges) rows

@@ -4,7 +4,7 @@ use mathlib.Core.List.{List, [], _∷_}
 use Prim.Native.Nat.{ℕ}
 use Rattle.little.specs.Little.{quad, word}
 use Rattle.net.specs.Ends.{dstOf, srcOf, startAt}
-use Rattle.file.specs.File.{backOf, edgeByte, edgesAt, edgesOf, operationsAt, operationsOf, timeIn, trailerAt}
+use Rattle.file.specs.File.{backOf, edgeByte, edgesAt, edgesOf, operationsAt, operationsOf, operationTime, trailerAt}
 use Rattle.refusal.specs.declared.Verdict.the-variants.{Refused}
 use Rattle.reader.proofs.Total.{lookOf}
 
@@ -15,6 +15,6 @@ p4 =
     ∷ 0 ∷ 1 ∷ 0 ∷ 0 ∷ 1 ∷ 2 ∷ 0 ∷ 0 ∷ 1 ∷ 2 ∷ 1 ∷ 0 ∷ 2 ∷ 3 ∷ 0 ∷ 0
     ∷ 0 ∷ 0 ∷ 2 ∷ 0 ∷ 24 ∷ 0 ∷ 4 ∷ 0 ∷ 40 ∷ 0 ∷ 1 ∷ 0 ∷ 65 ∷ 77 ∷ 71 ∷ 49 ∷ []
 
-pub p4-refused : lookOf p4 .verdict ≡ Refused 9 3
-unfolding lookOf trailerAt operationsAt operationsOf edgesAt edgesOf backOf timeIn edgeByte word quad srcOf dstOf startAt
+pub p4-refused : lookOf p4 .verdict ≡ Refused (record { number = 9; place = 3 })
+unfolding lookOf trailerAt operationsAt operationsOf edgesAt edgesOf backOf operationTime edgeByte word quad srcOf dstOf startAt
 p4-refused = refl

@@ -1,63 +1,67 @@
--- The label rule: files that differ only in label bytes, or in the order of their tables, are allowed the same reply.
-use Prim.Native.Nat.{ℕ, _+_, _≤_, _<_}
-use mathlib.Core.Path.{_≡_, _∙_, subst}
-use mathlib.Core.Logic.{_⊎_, inl, inr, ⊎-elim}
+-- The label rule: files that differ only in label bytes get equal replies, and so do files that differ in the order of their tables.
+use Prim.Native.Nat.{ℕ}
+use mathlib.Core.Path.{_≡_, refl}
 use mathlib.Core.List.{List}
 use native.Mathlib.Omega.{arith}
-use native.Mathlib.Decide.{decLt}
-use Rattle.net.specs.Plan.{Plan}
-use Rattle.file.specs.Labels.{Agree, SameButLabels, SameGraph}
-use Rattle.file.proofs.Order.{given-framed, given-unframed, sound-framed}
-use Rattle.file.proofs.Agree.{given-same, sound-same}
-use Rattle.file.proofs.Labels.{one-graph, unframed}
-use Rattle.tables.specs.Filled.{Filled}
-use Rattle.reader.specs.Reply.{Beside, Judged, LookReply, Shows}
-use Rattle.reader.specs.declared.graph.Graph.{Graph}
-use Rattle.reader.specs.declared.graph.Look.{Look}
+use Rattle.refusal.specs.Asking.{Judged}
 use Rattle.refusal.specs.declared.Verdict.{Verdict}
 use Rattle.refusal.specs.declared.Verdict.the-variants.{Accepted, Refused}
+use Rattle.refusal.proofs.Same.{SameRows, asked-same, judged-same}
+use Rattle.refusal.proofs.Asked.{judged-sound, sound-parts}
+use Rattle.net.specs.Plan.{Agree}
+use Rattle.net.specs.Rules.{graphRows}
+use Rattle.net.proofs.Agree.{agree-rows}
+use Rattle.file.specs.File.{planOf}
+use Rattle.file.specs.Frame.{frameRows, lookRows}
+use Rattle.file.specs.Labels.{SameButLabels, SameGraph}
+use Rattle.file.proofs.Labels.{labels-rows, plans-agree}
+use Rattle.file.proofs.Order.{sound-framed}
+use Rattle.reader.specs.Reply.{Beside, LookReply}
+use Rattle.reader.specs.declared.graph.Graph.{Graph}
+use Rattle.reader.specs.declared.graph.Look.{Look}
+use Rattle.reader.proofs.Showing.{shows-same, shows-to}
+use Rattle.reader.proofs.Determined.{look-determined}
 
-filled-same : {n room : ℕ} {h k : ℕ → ℕ} {xs : List ℕ} → ((i : ℕ) → i < n → h i ≡ k i) → Filled n room h xs → Filled n room k xs
-filled-same e t = record { long = t .long; used = λ i l. t .used i l ∙ e i l; unused = t .unused }
-
--- A graph that shows a part of one plan shows that part of the other.
-shows-same : {p q : Plan} {n e : ℕ} {r : Graph} → Agree p q → n ≤ p .operations → e ≤ p .edges → Shows p n e r → Shows q n e r
-shows-same a m d s =
+-- The graph beside an accepted file, and the one beside a refused file, where the plans agree or nothing is shown of them.
+beside-same : (f g : List ℕ) (v : Verdict) (r : Graph) → (v ≡ Accepted → Agree (planOf f) (planOf g)) → Beside f v r → Beside g v r
+beside-same f g Accepted r a h = let p = a refl in shows-to (p .operations) (p .edges) (shows-same p (omega arith) (omega arith) h)
+beside-same f g (Refused x) r a h =
     record {
-      operations = s .operations;
-      edges = s .edges;
-      times = filled-same (λ i l. a .time (i + 1) (record { low-met = omega arith; high-met = omega arith })) (s .times);
-      from = filled-same (λ i l. a .from i (omega arith)) (s .from);
-      to = filled-same (λ i l. a .to i (omega arith)) (s .to);
-      mark = filled-same (λ i l. a .mark i (omega arith)) (s .mark);
+      operations = h .operations;
+      edges = h .edges;
+      times = record { long = h .times .long; used = λ i l. absurd (omega arith); unused = h .times .unused };
+      from = record { long = h .from .long; used = λ i l. absurd (omega arith); unused = h .from .unused };
+      to = record { long = h .to .long; used = λ i l. absurd (omega arith); unused = h .to .unused };
+      mark = record { long = h .mark .long; used = λ i l. absurd (omega arith); unused = h .mark .unused };
+      buffers = record { long = h .buffers .long; used = λ i l. absurd (omega arith); unused = h .buffers .unused };
     }
 
-shows-to : {p : Plan} {n m e d : ℕ} {r : Graph} → n ≡ m → e ≡ d → Shows p n e r → Shows p m d r
-shows-to {p} {n} {d} {r} i j s = subst (λ (k : ℕ). Shows p k d r) i (subst (λ (k : ℕ). Shows p n k r) j s)
+-- Files whose rows are the same, and whose plans agree where they are kept, are allowed the same reply.
+carries : (f g : List ℕ) → SameRows (lookRows f) (lookRows g) → (Judged (lookRows f) Accepted → Agree (planOf f) (planOf g)) → (r : Look) → LookReply f r → LookReply g r
+carries f g same agree r h =
+    record {
+      judged = judged-same (lookRows f) (lookRows g) same (h .judged);
+      beside = beside-same f g (r .verdict) (r .graph) (λ e. agree (rw e at (h .judged))) (h .beside);
+    }
 
--- Files that hold the same graph, their tables in either order, are allowed the same reply.
-module _ (f g : List ℕ) (a : SameGraph f g) where
-  judged-same : (v : Verdict) → Judged f v → Judged g v
-  judged-same Accepted h = sound-same a h
-  judged-same (Refused k x) h = given-same a h
+-- A reply for a file is one for each file that differs only in labels.
+pub look-carries : (f g : List ℕ) → SameButLabels f g → (r : Look) → LookReply f r → LookReply g r
+look-carries f g s =
+    carries f g (labels-rows f g s) (λ h. plans-agree f g s (sound-framed (sound-parts (frameRows f) (graphRows (planOf f)) (judged-sound h) .0) .laid))
 
-  beside-same : (v : Verdict) (r : Graph) → Beside f v r → Beside g v r
-  beside-same Accepted r h = shows-to (a .plans .operations) (a .plans .edges) (shows-same (a .plans) (omega arith) (omega arith) h)
-  beside-same (Refused k x) r h = shows-same (a .plans) (omega arith) (omega arith) h
+-- Files that differ only in labels get equal replies, whether they are accepted or refused.
+pub look-label-blind : (f g : List ℕ) → SameButLabels f g → (r s : Look) → LookReply f r → LookReply g s → r ≡ s
+look-label-blind f g a r s p q = look-determined g r s (look-carries f g a r p) q
 
-  pub look-order-blind : (r : Look) → LookReply f r → LookReply g r
-  look-order-blind r h = record { judged = judged-same (r .verdict) (h .judged); beside = beside-same (r .verdict) (r .graph) (h .beside) }
-
--- Files that differ only in label bytes are allowed the same reply.
-module _ (f g : List ℕ) (s : SameButLabels f g) where
-  one-or-alike : (v : Verdict) → Judged f v → (f ≡ g) ⊎ SameGraph f g
-  one-or-alike Accepted h = inr (one-graph f g (sound-framed h) s)
-  one-or-alike (Refused k x) h = go (decLt k 5)
-    where
-      go : Dec (k < 5) → (f ≡ g) ⊎ SameGraph f g
-      go (yes l) = inl (unframed f g (given-unframed l h) s)
-      go (no l) = inr (one-graph f g (given-framed {x = x} (omega arith) h) s)
-
-  pub look-label-blind : (r : Look) → LookReply f r → LookReply g r
-  look-label-blind r h =
-      ⊎-elim (λ e. subst (λ (b : List ℕ). LookReply b r) e h) (λ a. look-order-blind f g a r h) (one-or-alike (r .verdict) (h .judged))
+-- Files that hold the same graph, their tables in either order, get equal replies.
+pub look-order-blind : (f g : List ℕ) → SameGraph f g → (r s : Look) → LookReply f r → LookReply g s → r ≡ s
+look-order-blind f g a r s p q = look-determined g r s (carries f g rows (λ h. a .plans) r p) q
+  where
+    rows : SameRows (lookRows f) (lookRows g)
+    rows =
+        let x = a .left in
+        let y = a .right in
+        (asked-same (λ h. y .sized) (λ h. x .sized), λ k1.
+        (asked-same (λ h. y .signed) (λ h. x .signed), λ k2.
+        (asked-same (λ h. y .counted) (λ h. x .counted), λ k3.
+        (asked-same (λ h. y .laid) (λ h. x .laid), λ k4. agree-rows (planOf f) (planOf g) (a .plans)))))

@@ -1,11 +1,8 @@
-pub mod Labels
+pub mod Showing
 pub mod Determined
+pub mod Labels
 pub mod Accepting
-pub mod Judging
-pub mod Dying
 pub mod Outcomes
-pub mod Ways
-pub mod Deciding
-pub mod Reaching
+pub mod Framing
 pub mod Total
 pub mod Example

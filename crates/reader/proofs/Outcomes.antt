@@ -1,25 +1,31 @@
--- One outcome for a file and a table, whatever the labels: what every call above look rests its own two theorems on.
+-- One outcome for a file and its rows, whatever the labels: what every call above look rests its own theorems on.
 use Prim.Native.Nat.{ℕ}
-use mathlib.Core.Path.{_≡_, ap, subst}
+use mathlib.Core.Path.{_≡_, ap, subst, sym, _∙_}
 use mathlib.Core.List.{List}
 use native.Mathlib.Omega.{arith}
 use Rattle.refusal.specs.Asking.{Ask, Given}
-use Rattle.reader.specs.Reply.{LookReply}
-use Rattle.file.specs.Labels.{SameButLabels}
-use Rattle.reader.specs.Outcome.{Ends, Outcome, accepted, from10, passed, refused, unread}
-use Rattle.reader.specs.declared.graph.Graph.{Graph}
-use Rattle.reader.specs.declared.graph.Look.{Look}
+use Rattle.refusal.specs.declared.Refusal.{Refusal}
 use Rattle.refusal.specs.declared.Verdict.{Verdict}
 use Rattle.refusal.specs.declared.Verdict.the-variants.{Accepted, Refused}
-use Rattle.file.proofs.Clear.{Clear, clear-more, clear-none}
-use Rattle.reader.proofs.Determined.{look-determined, not-both, same-number, same-place}
-use Rattle.reader.proofs.Labels.{look-label-blind}
+use Rattle.refusal.proofs.Determined.{given-unique, sound-not-given}
+use Rattle.net.specs.Plan.{Plan}
+use Rattle.file.specs.Labels.{SameButLabels}
+use Rattle.reader.specs.Reply.{LookReply, shown}
+use Rattle.reader.specs.Outcome.{Ends, Outcome, accepted, passed, refusal, refused, unread}
+use Rattle.reader.specs.declared.graph.Graph.{Graph}
+use Rattle.reader.specs.declared.graph.Look.{Look}
+use Rattle.reader.proofs.Determined.{look-determined}
+use Rattle.reader.proofs.Labels.{look-carries}
 
 -- look accepts and refuses no file
-never : {A : Type 0} {v w : Verdict} {k x : ℕ} → v ≡ w → v ≡ Accepted → w ≡ Refused k x → A
+never : {A : Type 0} {v w : Verdict} {r : Refusal} → v ≡ w → v ≡ Accepted → w ≡ Refused r → A
 never e a b = let z : _≡_ {A = ℕ} 0 1 = cc in absurd (omega arith)
 
-module _ (f : List ℕ) (further : Graph → List Ask) where
+-- a verdict refuses by one number at one place
+one-refusal : {v w : Verdict} {r s : Refusal} → v ≡ w → v ≡ Refused r → w ≡ Refused s → refusal r ≡ refusal s
+one-refusal e a b = cc
+
+module _ (f : List ℕ) (further : Plan → List Ask) where
   one : {r s : Look} → LookReply f r → LookReply f s → r ≡ s
   one p q = look-determined f _ _ p q
 
@@ -32,35 +38,22 @@ module _ (f : List ℕ) (further : Graph → List Ask) where
 
   -- Two outcomes of one file coincide.
   pub outcome-determined : {o u : Outcome} → Ends f further o → Ends f further u → o ≡ u
-  outcome-determined (unread p a) (unread q b) = let e = same-verdict p q in cc
+  outcome-determined (unread p a) (unread q b) = one-refusal (same-verdict p q) a b
   outcome-determined (unread p a) (refused q b h) = never (same-verdict q p) b a
   outcome-determined (unread p a) (passed q b h) = never (same-verdict q p) b a
   outcome-determined (refused p a g) (unread q b) = never (same-verdict p q) a b
-  outcome-determined (refused {k = k} {x = x} p a g) (refused {r = s} {k = j} {x = y} q b h) =
-      let c : Given (further (s .graph)) k x = carry (λ (z : Graph). Given (further z) k x) p q g in
-      let e : k ≡ j = same-number c h in
-      let d : x ≡ y = same-place (subst (λ (m : ℕ). Given (further (s .graph)) m x) e c) h in
-      cc
-  outcome-determined (refused {k = k} {x = x} p a g) (passed q b h) = absurd (not-both h (carry (λ (z : Graph). Given (further z) k x) p q g))
+  outcome-determined (refused {r = r} p a g) (refused q b h) = ap (λ (x : Refusal). refusal x) (given-unique (carry (λ (z : Graph). Given (further (shown z)) r) p q g) h)
+  outcome-determined (refused {r = r} p a g) (passed q b h) = absurd (sound-not-given h (carry (λ (z : Graph). Given (further (shown z)) r) p q g))
   outcome-determined (passed p a h) (unread q b) = never (same-verdict p q) a b
-  outcome-determined (passed p a h) (refused {k = j} {x = y} q b g) = absurd (not-both h (carry (λ (z : Graph). Given (further z) j y) q p g))
+  outcome-determined (passed p a h) (refused {r = r} q b g) = absurd (sound-not-given h (carry (λ (z : Graph). Given (further (shown z)) r) q p g))
   outcome-determined (passed p a h) (passed q b k) = ap (λ (l : Look). accepted (l .graph)) (one p q)
 
--- Files with the same replies of look end alike,
-outcome-alike : {f g : List ℕ} {further : Graph → List Ask} {o : Outcome} → ((r : Look) → LookReply f r → LookReply g r) → Ends f further o → Ends g further o
-outcome-alike s (unread p a) = unread (s _ p) a
-outcome-alike s (refused p a h) = refused (s _ p) a h
-outcome-alike s (passed p a h) = passed (s _ p) a h
+-- An outcome of a file is one of each file that differs only in labels,
+pub outcome-carries : {f g : List ℕ} {further : Plan → List Ask} {o : Outcome} → SameButLabels f g → Ends f further o → Ends g further o
+outcome-carries {f} {g} s (unread p a) = unread (look-carries f g s _ p) a
+outcome-carries {f} {g} s (refused p a h) = refused (look-carries f g s _ p) a h
+outcome-carries {f} {g} s (passed p a h) = passed (look-carries f g s _ p) a h
 
--- so files that differ only in labels do.
-pub outcome-label-blind : {f g : List ℕ} {further : Graph → List Ask} {o : Outcome} → SameButLabels f g → Ends f further o → Ends g further o
-outcome-label-blind {f} {g} s h = outcome-alike (look-label-blind f g s) h
-
--- Of rows that are numbered from 10, those before 10 ask nothing.
-pub clear-10 : (further : List Ask) → Clear (from10 further) 10
-clear-10 further =
-    let still : (x : ℕ) → ⊥ → ⊥ = λ x p. p in
-    clear-more 9 still
-    (clear-more 8 still
-    (clear-more 7 still
-    (clear-more 6 still (clear-more 5 still (clear-more 4 still (clear-more 3 still (clear-more 2 still (clear-more 1 still (clear-more 0 still clear-none)))))))))
+-- so their outcomes are equal.
+pub outcome-label-blind : {f g : List ℕ} {further : Plan → List Ask} {o u : Outcome} → SameButLabels f g → Ends f further o → Ends g further u → o ≡ u
+outcome-label-blind {g} {further} s p q = outcome-determined g further (outcome-carries s p) q

@@ -1,118 +1,52 @@
 -- Every file has a reply, and it computes: `lookOf`. With `look-determined` this decides `LookReply`, for files that are written out.
 use mathlib.Core.Path.{_≡_, refl, _∙_, ap}
-use mathlib.Core.Logic.{inl, inr}
 use mathlib.Core.List.{List, [], _∷_}
 use Prim.Native.Nat.{_+_, _<_, _≤_, suc, zero, ℕ}
 use native.Mathlib.Omega.{arith}
 use lib.Dec.{ltb}
 use lib.ListN.{length, getD, List·getD-eq-default}
 use borrow.Author.Tests.{lt-ltb, le-ltb}
-use Rattle.marked.proofs.Decide.{given?, le?, lt?}
-use Rattle.net.specs.Plan.{Plan}
-use Rattle.net.specs.Good.{Wired}
-use Rattle.net.specs.Ends.{pick}
-use Rattle.net.specs.Graph.{netOf}
-use Rattle.file.specs.File.{edgesOf, operationsOf, planOf}
-use Rattle.file.specs.Refusals.{row}
-use Rattle.refusal.specs.Asking.{Kept}
-use Rattle.file.specs.Rows.{Counted, Framed, Laid, Signed, Sized, table}
-use Rattle.net.specs.Rules.{Alive, Transition}
-use Rattle.tables.specs.Filled.{Filled}
-use Rattle.reader.specs.Reply.{Beside, Judged, LookReply, Shows}
-use Rattle.reader.specs.declared.graph.Graph.{Graph}
-use Rattle.reader.specs.declared.graph.Look.{Look}
+use Rattle.refusal.specs.Asking.{Judged, given, sound}
 use Rattle.refusal.specs.declared.Verdict.{Verdict}
 use Rattle.refusal.specs.declared.Verdict.the-variants.{Accepted, Refused}
-use Rattle.file.proofs.Clear.{Clear, clear-more, given, sound}
-use Rattle.file.proofs.Order.{framed-clear, refused-1, refused-2, refused-3, refused-4, sound-framed}
+use Rattle.refusal.proofs.Asked.{given-first, judged-after, sound-parts}
+use Rattle.marked.proofs.Decide.{lt?}
+use Rattle.net.specs.Limits.{mostEdges, mostOperations}
+use Rattle.net.specs.Plan.{Plan}
+use Rattle.net.specs.Ends.{pick}
+use Rattle.net.specs.Rules.{graphRows}
+use Rattle.file.specs.File.{operationsOf, edgesOf, planOf}
+use Rattle.file.specs.Frame.{CountsKept, Framed, Laid, Signed, Sized, frameRows, lookRows}
+use Rattle.file.proofs.Order.{framed-sound, refused-1, refused-2, refused-3, refused-4, sound-framed}
+use Rattle.judge.proofs.Deciding.{Verdicts, graph-verdict}
+use Rattle.tables.specs.Filled.{Filled}
+use Rattle.reader.specs.Reply.{Shows, Beside, LookReply}
+use Rattle.reader.specs.declared.graph.Graph.{Graph}
+use Rattle.reader.specs.declared.graph.Look.{Look}
 use Rattle.reader.proofs.Determined.{look-determined}
-use Rattle.reader.proofs.Deciding.{Searched, allowed?, counted?, laid?, linked?, searched, signed?, sized?, timely?, within?}
-use Rattle.reader.proofs.Reaching.{alive?, joined?}
+use Rattle.reader.proofs.Framing.{counted?, laid?, signed?, sized?}
 
--- A verdict that the file is allowed.
-abbrev Verdicts : List ℕ → Type 0
-Verdicts f = (v : Verdict) × Judged f v
-
--- Rows 5 to 9 of a file that has its frame: a search each, and what comes of it.
-module _ (f : List ℕ) (w : Framed f) where
-  abbrev late : Searched (row (table f) 5)
-  late =
-      searched (row (table f) 5) (λ i. within? 1 (operationsOf f) i) (λ i. given? (within? 1 (operationsOf f) i) (timely? (planOf f) i)) (operationsOf f + 1) (λ i p. omega (arith, p))
-
-  abbrev wrong : Searched (row (table f) 6)
-  wrong = searched (row (table f) 6) (λ e. lt? e (edgesOf f)) (λ e. given? (lt? e (edgesOf f)) (allowed? f e)) (edgesOf f) (λ e p. p)
-
-  abbrev bare : Searched (row (table f) 7)
-  bare =
-      searched (row (table f) 7) (λ n. le? n (operationsOf f + 1)) (λ n. given? (le? n (operationsOf f + 1)) (linked? (planOf f) n)) (operationsOf f + 2) (λ n p. omega (arith, p))
-
-  pub nodes : Kept (row (table f) 6) → (e : ℕ) → e < edgesOf f → (planOf f .from e < operationsOf f + 2) × (planOf f .to e < operationsOf f + 2)
-  nodes k e l = (omega (arith, k e l .leaves), omega (arith, k e l .enters))
-
-  pub limited : Kept (row (table f) 6) → Limited (planOf f)
-  limited k =
-      record {
-        operations = w .counted .operations .high-met;
-        edges = w .counted .edges .high-met;
-        leaves = λ e l. k e l .leaves;
-        enters = λ e l. k e l .enters .low-met;
-        ends = λ e l. k e l .enters .high-met;
-      }
-
-  module _ (k : Kept (row (table f) 6)) where
-    abbrev apart : Searched (row (table f) 8)
-    apart =
-        searched (row (table f) 8) (λ n. le? n (operationsOf f + 1)) (λ n. given? (le? n (operationsOf f + 1)) (joined? (planOf f) (nodes k) n)) (operationsOf f + 2) (λ n p. omega (arith, p))
-
-    abbrev alive-at : (t : ℕ) → Dec (Transition (planOf f) t) → Dec (Transition (planOf f) t → Alive (planOf f) t)
-    alive-at t (yes l) = given? (yes l) (alive? (planOf f) (limited k) t l)
-    alive-at t (no l) = yes (λ p. absurd (l p))
-
-    abbrev dead : Searched (row (table f) 9)
-    dead =
-        searched (row (table f) 9) (λ t. lt? t (netOf (planOf f) .transitions)) (λ t. alive-at t (lt? t (netOf (planOf f) .transitions))) (netOf (planOf f) .transitions) (λ t p. p)
-
-    abbrev at-9 : Clear (table f) 9 → Searched (row (table f) 9) → Verdicts f
-    at-9 c (inl h) = (Accepted, sound (clear-more 9 h c))
-    at-9 c (inr s) = (Refused 9 (s .0), given 9 c (s .1))
-
-    abbrev at-8 : Clear (table f) 8 → Searched (row (table f) 8) → Verdicts f
-    at-8 c (inl h) = at-9 (clear-more 8 h c) dead
-    at-8 c (inr s) = (Refused 8 (s .0), given 8 c (s .1))
-
-    abbrev at-7 : Clear (table f) 7 → Searched (row (table f) 7) → Verdicts f
-    at-7 c (inl h) = at-8 (clear-more 7 h c) apart
-    at-7 c (inr s) = (Refused 7 (s .0), given 7 c (s .1))
-
-  abbrev at-6 : Clear (table f) 6 → Searched (row (table f) 6) → Verdicts f
-  at-6 c (inl h) = at-7 h (clear-more 6 h c) bare
-  at-6 c (inr s) = (Refused 6 (s .0), given 6 c (s .1))
-
-  abbrev at-5 : Clear (table f) 5 → Searched (row (table f) 5) → Verdicts f
-  at-5 c (inl h) = at-6 (clear-more 5 h c) wrong
-  at-5 c (inr s) = (Refused 5 (s .0), given 5 c (s .1))
-
--- Rows 1 to 4.
+-- Rows 1 to 4, then the graph's.
 module _ (f : List ℕ) where
-  abbrev at-4 : Sized f → Signed f → Counted f → Dec (Laid f) → Verdicts f
+  abbrev at-4 : Sized f → Signed f → CountsKept f → Dec (Laid f) → Verdicts (lookRows f)
   at-4 s g c (yes l) =
       let w : Framed f = record { sized = s; signed = g; counted = c; laid = l } in
-      at-5 f w (framed-clear w) (late f w)
-  at-4 s g c (no n) = (Refused 4 0, refused-4 f s g c n)
+      (graph-verdict (planOf f) .0, judged-after (frameRows f) (graphRows (planOf f)) (framed-sound w) (graph-verdict (planOf f) .1))
+  at-4 s g c (no n) = (Refused (record { number = 4; place = 0 }), given (given-first (frameRows f) (graphRows (planOf f)) (refused-4 f s g c n)))
 
-  abbrev at-3 : Sized f → Signed f → Dec (Counted f) → Verdicts f
+  abbrev at-3 : Sized f → Signed f → Dec (CountsKept f) → Verdicts (lookRows f)
   at-3 s g (yes c) = at-4 s g c (laid? f)
-  at-3 s g (no n) = (Refused 3 0, refused-3 f s g n)
+  at-3 s g (no n) = (Refused (record { number = 3; place = 0 }), given (given-first (frameRows f) (graphRows (planOf f)) (refused-3 f s g n)))
 
-  abbrev at-2 : Sized f → Dec (Signed f) → Verdicts f
+  abbrev at-2 : Sized f → Dec (Signed f) → Verdicts (lookRows f)
   at-2 s (yes g) = at-3 s g (counted? f)
-  at-2 s (no n) = (Refused 2 0, refused-2 f s n)
+  at-2 s (no n) = (Refused (record { number = 2; place = 0 }), given (given-first (frameRows f) (graphRows (planOf f)) (refused-2 f s n)))
 
-  abbrev at-1 : Dec (Sized f) → Verdicts f
+  abbrev at-1 : Dec (Sized f) → Verdicts (lookRows f)
   at-1 (yes s) = at-2 s (signed? f)
-  at-1 (no n) = (Refused 1 0, refused-1 f n)
+  at-1 (no n) = (Refused (record { number = 1; place = 0 }), given (given-first (frameRows f) (graphRows (planOf f)) (refused-1 f n)))
 
-  abbrev verdicts : Verdicts f
+  abbrev verdicts : Verdicts (lookRows f)
   verdicts = at-1 (sized? f)
 
 -- The array whose first n entries are the values of h, and the others 0.
@@ -147,19 +81,29 @@ filled-fill room n h l = record { long = fill-long room n h 0; used = used; unus
 -- The graph that shows a part of a plan.
 abbrev graphOf : Plan → ℕ → ℕ → Graph
 graphOf p n e =
-    record { operations = n; edges = e; times = fill 40 n (λ i. p .time (i + 1)) 0; from = fill 128 e (p .from) 0; to = fill 128 e (p .to) 0; mark = fill 128 e (p .mark) 0 }
+    record { operations = n; edges = e; times = fill mostOperations n (λ i. p .time (i + 1)) 0; from = fill mostEdges e (p .from) 0; to = fill mostEdges e (p .to) 0; mark = fill mostEdges e (p .mark) 0; buffers = fill mostEdges e (p .buffers) 0 }
 
-shows-graph : (p : Plan) (n e : ℕ) → n ≤ 40 → e ≤ 128 → Shows p n e (graphOf p n e)
+shows-graph : (p : Plan) (n e : ℕ) → n ≤ mostOperations → e ≤ mostEdges → Shows p n e (graphOf p n e)
 shows-graph p n e a b =
-    record { operations = refl; edges = refl; times = filled-fill 40 n (λ i. p .time (i + 1)) a; from = filled-fill 128 e (p .from) b; to = filled-fill 128 e (p .to) b; mark = filled-fill 128 e (p .mark) b }
+    record {
+      operations = refl;
+      edges = refl;
+      times = filled-fill mostOperations n (λ i. p .time (i + 1)) a;
+      from = filled-fill mostEdges e (p .from) b;
+      to = filled-fill mostEdges e (p .to) b;
+      mark = filled-fill mostEdges e (p .mark) b;
+      buffers = filled-fill mostEdges e (p .buffers) b;
+    }
 
 abbrev besides : List ℕ → Verdict → Graph
 besides f Accepted = graphOf (planOf f) (operationsOf f) (edgesOf f)
-besides f (Refused k x) = graphOf (planOf f) 0 0
+besides f (Refused r) = graphOf (planOf f) 0 0
 
-beside-graph : (f : List ℕ) (v : Verdict) → Judged f v → Beside f v (besides f v)
-beside-graph f Accepted h = let c = sound-framed h .counted in shows-graph (planOf f) (operationsOf f) (edgesOf f) (c .operations .high-met) (c .edges .high-met)
-beside-graph f (Refused k x) h = shows-graph (planOf f) 0 0 (omega arith) (omega arith)
+beside-graph : (f : List ℕ) (v : Verdict) → Judged (lookRows f) v → Beside f v (besides f v)
+beside-graph f Accepted (sound h) =
+    let c = sound-framed (sound-parts (frameRows f) (graphRows (planOf f)) h .0) .counted in
+    shows-graph (planOf f) (operationsOf f) (edgesOf f) (c .operations .high-met) (c .edges .high-met)
+beside-graph f (Refused r) h = shows-graph (planOf f) 0 0 (omega arith) (omega arith)
 
 -- The reply, computed.
 unfoldable pub lookOf : List ℕ → Look

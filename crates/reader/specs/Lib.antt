@@ -1,4 +1,2 @@
 pub mod Reply
-pub mod Accepted
 pub mod Outcome
-pub mod Work

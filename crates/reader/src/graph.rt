@@ -1,10 +1,18 @@
 // A graph as the reader hands it out, its limits, and how it is made from the bytes of a file.
-use crate::judge::judge;
 use crate::read::blank;
 use crate::read::read;
 use file::frame::framed;
 use file::frame::numbers;
-ghost use Rattle.reader.specs.Reply.{LookReply};
+use judge::judge;
+use refusal::Refusal;
+use refusal::Verdict;
+ghost use mathlib.Core.List.{List};
+ghost use Prim.Native.Nat.{ℕ};
+ghost use Rattle.refusal.specs.Asking.{Given, Judged};
+ghost use Rattle.net.specs.Limits.{Counted};
+ghost use Rattle.net.specs.Rules.{graphRows};
+ghost use Rattle.file.specs.Frame.{lookRows};
+ghost use Rattle.reader.specs.Reply.{LookReply, shown};
 
 // A graph as its file has it; unused entries are 0.
 pub struct Graph {
@@ -14,12 +22,7 @@ pub struct Graph {
     pub from: [u8; Graph::EDGES],
     pub to: [u8; Graph::EDGES],
     pub mark: [u8; Graph::EDGES],
-}
-
-// Whether a file is accepted; if not, the refusal's number and place.
-pub enum Verdict {
-    Accepted,
-    Refused { number: u8, place: u16 },
+    pub buffers: [u8; Graph::EDGES],
 }
 
 // The graph is all zero where the file is refused.
@@ -28,14 +31,45 @@ pub struct Look {
     pub graph: Graph,
 }
 
+// Rows 5 to 9 of a graph.
+fn verdict_of(g: Graph) -> Verdict
+    requires { ⌜ Counted (g .operations) (g .edges) ⌝ }
+    ensures { λ r. ⌜ Judged (graphRows (shown g)) r ⌝ }
+{
+    judge(
+        g.operations,
+        g.edges,
+        &g.times,
+        &g.from,
+        &g.to,
+        &g.mark,
+        &g.buffers,
+    )
+}
+
+// The reply to a file that is refused.
+fn refused(refusal: Refusal) -> Look
+    ensures { λ r. ⌜ ((f : List ℕ) → Given (lookRows f) refusal → LookReply f r) ⌝ }
+{
+    let verdict = Verdict::Refused(refusal);
+    let graph = blank();
+    Look { verdict, graph }
+}
+
 impl Graph {
-    // The most operations, and the most edges.
+    // The fewest and the most operations, and edges.
+    pub const FEWEST_OPERATIONS: usize = net::FEWEST_OPERATIONS;
+
     pub const OPERATIONS: usize = net::OPERATIONS;
+
+    pub const FEWEST_EDGES: usize = net::FEWEST_EDGES;
 
     pub const EDGES: usize = net::EDGES;
 
-    // The longest time of an operation.
-    pub const TIME: u32 = tables::TIME;
+    // The shortest and the longest time of an operation.
+    pub const SHORTEST_TIME: u32 = net::SHORTEST_TIME;
+
+    pub const TIME: u32 = net::TIME;
 
     // The shortest file, and the longest.
     pub const SHORTEST: usize = file::SHORTEST;
@@ -46,19 +80,18 @@ impl Graph {
     pub fn from_file(file: &[u8]) -> Look
         ensures { λ r. ⌜ LookReply (now (file .entry)) r ⌝ }
     {
-        let number = framed(file);
-        if number != 0 {
-            let verdict = Verdict::Refused { number, place: 0 };
-            let graph = blank();
-            return Look { verdict, graph };
+        let verdict = framed(file);
+        if let Verdict::Refused(refusal) = verdict {
+            return refused(refusal);
         }
-        let t = numbers(file);
-        let graph = read(file, t);
-        let verdict = judge(file, t, graph);
-        if let Verdict::Accepted = verdict {
-            return Look { verdict, graph };
+        let g = read(file, numbers(file));
+        let verdict = verdict_of(g);
+        if let Verdict::Refused(refusal) = verdict {
+            return refused(refusal);
         }
-        let graph = blank();
-        Look { verdict, graph }
+        Look {
+            verdict: Verdict::Accepted,
+            graph: g,
+        }
     }
 }

@@ -1,7 +1,5 @@
 // The file reader: the one place where the bytes of a file become a graph.
-mod alive;
 pub mod graph;
-mod judge;
 mod read;
 
 use graph::Graph;

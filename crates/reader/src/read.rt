@@ -6,7 +6,7 @@ use tables::operations::times;
 ghost use Rattle.net.specs.Plan.{Plan};
 ghost use Rattle.file.specs.File.{edgesOf, operationsOf, planOf};
 ghost use Rattle.reader.specs.Reply.{Shows};
-ghost use Rattle.file.specs.Work.{Opened};
+ghost use Rattle.file.specs.helpers.Trailer.{Opened};
 
 // What the two tables hold.
 pub fn read(file: &[u8], t: Trailer) -> Graph
@@ -17,6 +17,7 @@ pub fn read(file: &[u8], t: Trailer) -> Graph
     let from = column(file, t, 0);
     let to = column(file, t, 1);
     let mark = column(file, t, 2);
+    let buffers = column(file, t, 3);
     Graph {
         operations: t.operations,
         edges: t.edges,
@@ -24,6 +25,7 @@ pub fn read(file: &[u8], t: Trailer) -> Graph
         from,
         to,
         mark,
+        buffers,
     }
 }
 
@@ -38,5 +40,6 @@ pub fn blank() -> Graph
         from: [0; Graph::EDGES],
         to: [0; Graph::EDGES],
         mark: [0; Graph::EDGES],
+        buffers: [0; Graph::EDGES],
     }
 }

@@ -4,13 +4,13 @@ use mathlib.Core.Logic.{_⊎_, inl, inr}
 use mathlib.Core.List.{List, [], _++_, _∷_}
 use Prim.Native.Nat.{ℕ, _<_}
 use native.Mathlib.Omega.{arith}
-use Rattle.refusal.specs.Asking.{AllKept, Ask, FirstBroken, Given, Judged, Kept, Lowest, Sound, accepted, asked, refused}
+use Rattle.refusal.specs.Asking.{AllKept, Ask, FirstBroken, Given, Judged, Kept, Lowest, Sound, asked, given, sound}
 use Rattle.refusal.specs.helpers.Answers.{Finds}
 use Rattle.refusal.specs.declared.Found.{Found}
 use Rattle.refusal.specs.declared.Found.the-variants.{At, Nothing}
 use Rattle.refusal.specs.declared.Refusal.{Refusal}
 use Rattle.refusal.specs.declared.Verdict.{Verdict}
-use Rattle.refusal.specs.declared.Verdict.the-variants.{Refused}
+use Rattle.refusal.specs.declared.Verdict.the-variants.{Accepted, Refused}
 
 -- A rule of the whole that fails is broken at 0.
 pub lowest-whole : {k : ℕ} {P : Type 0} → (P → ⊥) → Lowest (asked k P) 0
@@ -26,7 +26,14 @@ given-here r e p = record { first = inl (e, p) }
 
 -- A verdict that tells the refusal that is given.
 pub judged-refused : {rows : List Ask} {v : Verdict} (r : Refusal) → v ≡ Refused r → Given rows r → Judged rows v
-judged-refused {rows} r e p = subst (λ (w : Verdict). Judged rows w) (sym e) (refused p)
+judged-refused {rows} r e p = subst (λ (w : Verdict). Judged rows w) (sym e) (given p)
+
+-- What a known verdict gives.
+pub judged-sound : {rows : List Ask} → Judged rows Accepted → Sound rows
+judged-sound (sound p) = p
+
+pub judged-given : {rows : List Ask} {r : Refusal} → Judged rows (Refused r) → Given rows r
+judged-given (given p) = p
 
 -- The first row is kept: what follows decides.
 pub given-next : {a : Ask} {rows : List Ask} {r : Refusal} → Kept a → Given rows r → Given (a ∷ rows) r
@@ -36,8 +43,8 @@ pub sound-next : {a : Ask} {rows : List Ask} → Kept a → Sound rows → Sound
 sound-next p q = record { kept = (p, q .kept) }
 
 pub judged-next : {a : Ask} {rows : List Ask} {v : Verdict} → Kept a → Judged rows v → Judged (a ∷ rows) v
-judged-next p (accepted q) = accepted (sound-next p q)
-judged-next p (refused q) = refused (given-next p q)
+judged-next p (sound q) = sound (sound-next p q)
+judged-next p (given q) = given (given-next p q)
 
 -- Two lists of rows, one after the other: the first refuses,
 pub given-first : (rows more : List Ask) {r : Refusal} → Given rows r → Given (rows ++ more) r

@@ -5,7 +5,7 @@ use mathlib.Core.List.{List, [], _∷_}
 use Prim.Native.Nat.{ℕ, _<_}
 use native.Mathlib.Omega.{arith}
 use native.Mathlib.Decide.{decLt}
-use Rattle.refusal.specs.Asking.{AllKept, Ask, FirstBroken, Given, Judged, Lowest, Sound, accepted, refused}
+use Rattle.refusal.specs.Asking.{AllKept, Ask, FirstBroken, Given, Judged, Lowest, Sound, given, sound}
 use Rattle.refusal.specs.declared.Refusal.{Refusal}
 use Rattle.refusal.specs.declared.Verdict.{Verdict}
 use Rattle.refusal.specs.declared.Verdict.the-variants.{Refused}
@@ -46,7 +46,7 @@ sound-not-given {rows} {r} p q = kept-none rows (r .number) (r .place) (p .kept)
 
 -- So the verdict is one.
 pub verdict-determined : {rows : List Ask} {v w : Verdict} → Judged rows v → Judged rows w → v ≡ w
-verdict-determined (accepted p) (accepted q) = refl
-verdict-determined (accepted p) (refused q) = absurd (sound-not-given p q)
-verdict-determined (refused p) (accepted q) = absurd (sound-not-given q p)
-verdict-determined (refused p) (refused q) = ap (λ r. Refused r) (given-unique p q)
+verdict-determined (sound p) (sound q) = refl
+verdict-determined (sound p) (given q) = absurd (sound-not-given p q)
+verdict-determined (given p) (sound q) = absurd (sound-not-given q p)
+verdict-determined (given p) (given q) = ap (λ r. Refused r) (given-unique p q)

@@ -3,7 +3,7 @@ use Prim.Native.Nat.{ℕ, _<_}
 use mathlib.Core.Path.{_≡_, sym, _∙_, refl}
 use mathlib.Core.Logic.{_⊎_, inl, inr}
 use mathlib.Core.List.{List, [], _∷_}
-use Rattle.refusal.specs.Asking.{AllKept, Ask, FirstBroken, Given, Judged, Kept, Lowest, Sound, accepted, asked, refused}
+use Rattle.refusal.specs.Asking.{AllKept, Ask, FirstBroken, Given, Judged, Kept, Lowest, Sound, asked, given, sound}
 use Rattle.refusal.specs.declared.Refusal.{Refusal}
 use Rattle.refusal.specs.declared.Verdict.{Verdict}
 use Rattle.refusal.specs.declared.Found.{Found}
@@ -65,5 +65,5 @@ module _ (xs ys : List Ask) (s : SameRows xs ys) where
   given-same {r} h = record { first = first-same xs ys (r .number) (r .place) s (h .first) }
 
   pub judged-same : {v : Verdict} → Judged xs v → Judged ys v
-  judged-same (accepted h) = accepted (sound-same h)
-  judged-same (refused h) = refused (given-same h)
+  judged-same (sound h) = sound (sound-same h)
+  judged-same (given h) = given (given-same h)

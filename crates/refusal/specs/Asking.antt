@@ -51,5 +51,5 @@ pub record Given (rows : List Ask) (r : Refusal) : Type 0 where
 
 -- The verdict of the rows: accepted where all are kept, else the refusal that is given.
 pub data Judged (rows : List Ask) : Verdict → Type 0 where
-  accepted : Sound rows → Judged rows Accepted
-  refused : {r : Refusal} → Given rows r → Judged rows (Refused r)
+  sound : Sound rows → Judged rows Accepted
+  given : {r : Refusal} → Given rows r → Judged rows (Refused r)

@@ -4,7 +4,7 @@ use denote.Ref.{now}
 use native.Mathlib.Omega.{arith}
 use borrow.Author.Needs.{needs}
 use mathlib.Core.Path.{refl}
-use Rattle.refusal.specs.Asking.{Kept, Lowest, accepted}
+use Rattle.refusal.specs.Asking.{Kept, Lowest, sound}
 use Rattle.refusal.proofs.Asked.{found-at, found-none, given-here, judged-refused, sound-next, sound-none}
 use Rattle.net.specs.Plan.{Plan}
 use Rattle.net.specs.Rules.{row9}
@@ -47,7 +47,7 @@ enum-told : tie.Need-enum-told
 enum-told c = search needs
 
 returns-2 : tie.Need-returns-2
-returns-2 c = accepted (sound-next (kept c) sound-none)
+returns-2 c = sound (sound-next (kept c) sound-none)
 
 pub judge-tokens-spec : {M : Type 1} → statement M
 judge-tokens-spec =

@@ -3,7 +3,7 @@ use mathlib.Core.Path.{refl}
 use borrow.Author.Needs.{needs}
 use borrow.Author.Tests.{not-true, not-false}
 use denote.Ref.{now}
-use Rattle.refusal.specs.Asking.{accepted}
+use Rattle.refusal.specs.Asking.{sound}
 use Rattle.refusal.proofs.Answers.{said, denied}
 use Rattle.refusal.proofs.Asked.{judged-refused}
 use Rattle.file.specs.Frame.{CountsKept, Laid, Signed, Sized}
@@ -86,7 +86,7 @@ returns-4 c =
 returns-5 : tie.Need-returns-5
 returns-5 c =
     let d = passed-3 c in
-    accepted (framed-sound (record { sized = sized (passed-1 (passed-2 d)); signed = signed (passed-2 d); counted = counted d; laid = laid c }))
+    sound (framed-sound (record { sized = sized (passed-1 (passed-2 d)); signed = signed (passed-2 d); counted = counted d; laid = laid c }))
 
 pub framed-spec : {M : Type 1} → statement M
 framed-spec =

@@ -1,27 +1,52 @@
--- A frame that is wrong gives its refusal; else the verdict of `judge` stands beside the graph that was read, or beside an empty one.
-use denote.Ref.{now}
-use Rattle.file.specs.Rows.{Framed}
-use Rattle.file.specs.Work.{Opened}
-use Rattle.reader.proofs.Judging.{beside-accepted, beside-refused}
+-- A frame that is wrong gives its refusal; else the verdict on the graph that is read is the file's.
+use mathlib.Core.Path.{subst}
+use mathlib.Core.List.{List}
+use Prim.Native.Nat.{ℕ}
 use borrow.Author.Needs.{needs}
+use denote.Ref.{now}
+use Rattle.refusal.specs.Asking.{Judged}
+use Rattle.refusal.specs.declared.Verdict.{Verdict}
+use Rattle.refusal.proofs.Asked.{given-first, judged-given, judged-sound}
+use Rattle.net.specs.Rules.{graphRows}
+use Rattle.file.specs.File.{planOf}
+use Rattle.file.specs.Frame.{Framed, frameRows, lookRows}
+use Rattle.file.specs.helpers.Trailer.{Opened}
+use Rattle.file.proofs.Order.{sound-framed}
+use Rattle.reader.proofs.Accepting.{judged-shown, shown-counted}
 use Rattle.reader.proofs.graph.Graph.from_file.Statement.{statement}
 use Rattle.reader.proofs.graph.Graph.from_file.Tie as tie
 
 -- The frame is right, and the numbers are the trailer's.
-framed : (c : tie.Else1) → Framed (now (c .before .before .before .args .file))
-framed c = c .before .framed .ensures .right (c .if1 .left)
+abbrev start : tie.After-enum-told → tie.Start
+start c = c .before .before .before .before
 
-opened : (c : tie.After-numbers) → Opened (now (c .before .before .before .before .args .file)) (c .numbers .result)
+framed : (c : tie.After-enum-told) → Framed (now (start c .args .file))
+framed c = sound-framed (judged-sound (subst (λ (v : Verdict). Judged (frameRows (now (start c .args .file))) v) (c .enum-told .given .1) (c .before .before .framed .ensures)))
+
+opened : (c : tie.After-numbers) → Opened (now (start (c .before) .args .file)) (c .numbers .result)
 opened c = record { framed = framed (c .before); numbers = c .numbers .ensures }
+
+-- The verdict on the file, once the graph is judged.
+judged : (c : tie.After-verdict-of) → Judged (lookRows (now (start (c .before .before .before) .args .file))) (c .verdict-of .result)
+judged c = judged-shown _ (framed (c .before .before .before)) (c .before .read .ensures) (c .verdict-of .ensures)
 
 framed-requires : tie.Need-framed-requires
 framed-requires c κs = search needs
 
-blank-requires : tie.Need-blank-requires
-blank-requires c κs = search needs
+enum-known-verdict : tie.Need-enum-known-verdict
+enum-known-verdict c = search needs
+
+refused-requires : tie.Need-refused-requires
+refused-requires c κs = search needs
 
 returns : tie.Need-returns
-returns c = record { judged = c .before .before .framed .ensures .broken (c .before .if1 .taken); beside = c .blank .ensures _ }
+returns c =
+    let k = c .before .before in
+    let f = now (k .before .before .before .before .args .file) in
+    c .refused .ensures f (given-first (frameRows f) (graphRows (planOf f)) (judged-given (subst (λ (v : Verdict). Judged (frameRows f) v) (k .verdict .given .1) (k .before .before .framed .ensures))))
+
+enum-told : tie.Need-enum-told
+enum-told c = search needs
 
 numbers-requires : tie.Need-numbers-requires
 numbers-requires c κs = framed c .sized
@@ -29,36 +54,44 @@ numbers-requires c κs = framed c .sized
 read-requires : tie.Need-read-requires
 read-requires c κs = opened c
 
-judge-requires : tie.Need-judge-requires
-judge-requires c κs = (opened (c .before), c .read .ensures)
+verdict-of-requires : tie.Need-verdict-of-requires
+verdict-of-requires c κs = shown-counted (now (start (c .before .before) .args .file)) (framed (c .before .before) .counted) (c .read .ensures)
 
-enum-told : tie.Need-enum-told
-enum-told c = search needs
+enum-known-verdict-2 : tie.Need-enum-known-verdict-2
+enum-known-verdict-2 c = search needs
+
+refused-requires-2 : tie.Need-refused-requires-2
+refused-requires-2 c κs = search needs
 
 returns-2 : tie.Need-returns-2
-returns-2 c = record { judged = c .before .before .judge .ensures; beside = beside-accepted (now (c .before .before .before .before .before .before .before .before .args .file)) (c .before .before .judge .result) (c .enum-told .given .1) (c .before .before .before .read .ensures) }
+returns-2 c =
+    let k = c .before .before in
+    let f = now (start (k .before .before .before .before .before) .args .file) in
+    c .refused2 .ensures f (judged-given (subst (λ (v : Verdict). Judged (lookRows f) v) (k .verdict2 .given .1) (judged (k .before .before))))
 
 enum-told-2 : tie.Need-enum-told-2
 enum-told-2 c = search needs
 
-blank-requires-2 : tie.Need-blank-requires-2
-blank-requires-2 c κs = search needs
-
 returns-3 : tie.Need-returns-3
-returns-3 c = record { judged = c .before .before .before .judge .ensures; beside = beside-refused (now (c .before .before .before .before .before .before .before .before .before .args .file)) (c .before .before .before .judge .result) (c .before .enum-told2 .given .1) (c .blank2 .ensures _) }
+returns-3 c =
+    let v = c .before .before in
+    let f = now (start (v .before .before .before) .args .file) in
+    record { judged = subst (λ (w : Verdict). Judged (lookRows f) w) (c .enum-told2 .given .1) (judged v); beside = v .before .read .ensures }
 
 pub from-file-spec : {M : Type 1} → statement M
 from-file-spec =
     tie.close
     (tie.spec
     framed-requires
-    blank-requires
+    enum-known-verdict
+    refused-requires
     returns
+    enum-told
     numbers-requires
     read-requires
-    judge-requires
-    enum-told
+    verdict-of-requires
+    enum-known-verdict-2
+    refused-requires-2
     returns-2
     enum-told-2
-    blank-requires-2
     returns-3)

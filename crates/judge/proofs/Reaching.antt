@@ -15,12 +15,10 @@ use Rattle.marked.proofs.Walks.{join}
 use Rattle.marked.proofs.Pigeonhole.{sum-append}
 use Rattle.marked.proofs.Alive.{empty-circuit}
 use Rattle.net.specs.Plan.{Joined, Plan, against, along, source}
-use Rattle.net.specs.Good.{Wired}
 use Rattle.net.specs.Ends.{pick}
 use Rattle.net.specs.Graph.{netOf, startOf}
-use Rattle.net.proofs.Shapes.{wired-proper}
 use Rattle.net.specs.Rules.{Alive}
-use Rattle.reader.proofs.Ways.{Way, more, one, way?}
+use Rattle.judge.proofs.Ways.{Way, more, one, way?}
 
 -- Row 8: an edge is two hops, there and back.
 module _ (p : Plan) where
@@ -146,10 +144,10 @@ module _ (g : Net) (m : ℕ → ℕ) where
         along-walk (one q l y) v (omega arith)
 
 -- Whether every circuit through t has a token.
-module _ (p : Plan) (ok : Limited p) where
+module _ (p : Plan) (ok : Proper (netOf p)) where
   pub not-alive : (t : ℕ) → t < netOf p .transitions → Hops (netOf p) (startOf p) t t → Alive p t → ⊥
   not-alive t l w a =
-      let x = way-walk (netOf p) (startOf p) (wired-proper ok) l w in
+      let x = way-walk (netOf p) (startOf p) ok l w in
       let d = empty-circuit (startOf p) (x .walk) (x .some) (x .none) in
       omega (arith, a (d .ring) (d .circuit), d .empty)
 
@@ -157,7 +155,7 @@ module _ (p : Plan) (ok : Limited p) where
   is-alive t w ring c = at (ℕ-discrete (tokens (startOf p) ring) 0)
     where
       at : Dec (tokens (startOf p) ring ≡ 0) → 1 ≤ tokens (startOf p) ring
-      at (yes z) = absurd (w (walk-way (netOf p) (startOf p) (wired-proper ok) (c .walk) (c .some) z))
+      at (yes z) = absurd (w (walk-way (netOf p) (startOf p) ok (c .walk) (c .some) z))
       at (no z) = omega arith
 
   abbrev alive : (t : ℕ) → t < netOf p .transitions → Dec (Hops (netOf p) (startOf p) t t) → Dec (Alive p t)
@@ -165,4 +163,4 @@ module _ (p : Plan) (ok : Limited p) where
   alive t l (no w) = yes (is-alive t w)
 
   abbrev pub alive? : (t : ℕ) → t < netOf p .transitions → Dec (Alive p t)
-  alive? t l = alive t l (way? (netOf p .places) (netOf p .transitions) (leaves (netOf p) (startOf p)) (netOf p .dst) t (wired-proper ok .dst-in) t)
+  alive? t l = alive t l (way? (netOf p .places) (netOf p .transitions) (leaves (netOf p) (startOf p)) (netOf p .dst) t (ok .dst-in) t)

@@ -1,0 +1,18 @@
+use Rattle.refusal.specs.Asking.{given}
+use borrow.Author.Needs.{needs}
+use Rattle.reader.proofs.graph.refused.Statement.{statement}
+use Rattle.reader.proofs.graph.refused.Tie as tie
+use Rattle.reader.proofs.graph.refused.Reads as reads
+use Rattle.reader.proofs.graph.refused.Lts as lts
+use Rattle.reader.proofs.read.blank.Reads as blank-reads
+
+-- src/graph.rt:37:9
+blank-requires : tie.Need-blank-requires
+blank-requires c κs = search needs
+
+-- src/graph.rt:33:1
+returns : tie.Need-returns
+returns c = λ f g. record { judged = given g; beside = c .blank .ensures _ }
+
+pub refused-spec : {M : Type 1} → statement M
+refused-spec = tie.close (tie.spec blank-requires returns)
