@@ -39,7 +39,7 @@ use denote.Triple.Clauses.{ensured, lasts}
 use denote.Triple.Walked.{says}
 use Rattle.pen.specs.declared.Writer.{Writer}
 use Rattle.pen.specs.Digits.{digits}
-use Rattle.pen.specs.Lines.{Fits, wrote, lineEnd}
+use Rattle.pen.specs.Lines.{HasRoom, wrote, lineEnd}
 use Rattle.pen.proofs.Writer as T
 use Rattle.pen.proofs.Writer.Laws as T′
 use Rattle.pen.proofs.resume as resume
@@ -115,8 +115,8 @@ module _ {M : Type 1} {𝓤 : URA M} {H : Heap 𝓤} {A : Atoms 𝓤} (W : Given
         rewrite t 2 (λ (z : Writer). ‵ (R .own z (w′ ∷ []))) (so r e) refl $ move t (2 ∷ []) $ peeks t R (Is R) (shows 𝓤 H A R) h (w′ ∷ []) (λ is. move t (1 ∷ 0 ∷ []) $ k w′ (typed h w′ is))))))
 
     -- a call that is handed a writer, what O owns and T of the tokens, writes a text that fits, and hands the writer back
-    write-call : {f : Name} → K → FmC 𝓤 H (W .laws) C → (P : Contract 𝓤) → Triple 𝓤 (C f) P → (g : P .Ghost) (T : Item 𝓤) (O : Fml) (h : Writer) (w : Val) (text : List ℕ) → Fits (h .buf .now) (h .at) text
-        → ent 𝓤 (sep 𝓤 (⋆ 𝓤 H A ((‵ (flft κ q) ⊛ T) ∷ ‵ (fsep (R .own h (w ∷ [])) O) ∷ [])) (fact 𝓤 (Fits (h .buf .now) (h .at) text))) (P .pre g)
+    write-call : {f : Name} → K → FmC 𝓤 H (W .laws) C → (P : Contract 𝓤) → Triple 𝓤 (C f) P → (g : P .Ghost) (T : Item 𝓤) (O : Fml) (h : Writer) (w : Val) (text : List ℕ) → HasRoom (h .buf .now) (h .at) text
+        → ent 𝓤 (sep 𝓤 (⋆ 𝓤 H A ((‵ (flft κ q) ⊛ T) ∷ ‵ (fsep (R .own h (w ∷ [])) O) ∷ [])) (fact 𝓤 (HasRoom (h .buf .now) (h .at) text))) (P .pre g)
         → {Z : Type 0} (L : Z → Fml) → ((w′ : Val) → ent 𝓤 (P .post g w′) (mean 𝓤 H A (later (some (λ (r : Writer). ((‵ (flft κ q) ⊛ T) ⊛ ‵ (R .own r (w′ ∷ []))) ⊛ some (λ (z : Z). ‵ (L z) ⊛ raw (fact 𝓤 (r ≡ wrote h text))))))))
         → Opds K W (raw (P .pre g) ∷ Γ) E xs (P .args g)
         → ((w′ : Val) → IsW w′ → Seq K W (‵ (flft κ q) ∷ ‵ (R .own (wrote h text) (w′ ∷ [])) ∷ T ∷ Γ) (lands C Λ E d w′ rest p))
@@ -140,7 +140,7 @@ module _ {M : Type 1} {𝓤 : URA M} {H : Heap 𝓤} {A : Atoms 𝓤} (W : Given
         asked = qed W (‵ (flft κ q) ∷ ‵ (MutSlice (named 0) κ u8 .own x (sliceVal (x .ptr) (length (x .now)) ∷ [])) ∷ []) ∵ nothing ! $ owned ! usize (Is usize) (uint-makes 𝓤 H A W w64) n _ (refl, fits) $ fjoin ! $ move ! (2 ∷ 0 ∷ []) $ fjoin ! $
             nothing ! $ move ! (2 ∷ 0 ∷ []) $ join ! $ join ! $ frame ! $ done !
 
-    pub number-call : K → FmC 𝓤 H (W .laws) C → Triple 𝓤 (C #pen·number) (Number 𝓤 H A mem run) → (h : Writer) (m : ℕ) (w : Val) → m < 2 ^ 64 → Fits (h .buf .now) (h .at) (digits m)
+    pub number-call : K → FmC 𝓤 H (W .laws) C → Triple 𝓤 (C #pen·number) (Number 𝓤 H A mem run) → (h : Writer) (m : ℕ) (w : Val) → m < 2 ^ 64 → HasRoom (h .buf .now) (h .at) (digits m)
         → Opds K W (raw (Number 𝓤 H A mem run .pre (to-number h m w)) ∷ Γ) E xs (w ∷ vint w64 m ∷ [])
         → ((w′ : Val) → IsW w′ → Seq K W (‵ (flft κ q) ∷ ‵ (R .own (wrote h (digits m)) (w′ ∷ [])) ∷ Γ) (lands C Λ E d w′ rest p))
         → Seq K W (‵ (flft κ q) ∷ ‵ (R .own h (w ∷ [])) ∷ Γ) (runs C Λ E (seq (call #pen·number xs d) rest) p)
@@ -148,7 +148,7 @@ module _ {M : Type 1} {𝓤 : URA M} {H : Heap 𝓤} {A : Atoms 𝓤} (W : Given
         nothing t $ owned t u64 (Is u64) (uint-makes 𝓤 H A W w64) m _ (refl, fits) $ fjoin t $ nothing t $ move t (2 ∷ 0 ∷ 3 ∷ []) $
         write-call t fm (Number 𝓤 H A mem run) known (to-number h m w) (‵ ftrue) (fsep (u64 .own m (vint w64 m ∷ [])) ftrue) h w (digits m) within (id⊢ 𝓤 _) (lasts number.ended (κ, tt) (h, (m, tt))) (λ w′. id⊢ 𝓤 _) os (λ w′ g. move t (2 ∷ []) $ drop t $ k w′ g)
 
-    pub newline-call : K → FmC 𝓤 H (W .laws) C → Triple 𝓤 (C #pen·newline) (Newline 𝓤 H A mem run) → (h : Writer) (w : Val) → Fits (h .buf .now) (h .at) lineEnd
+    pub newline-call : K → FmC 𝓤 H (W .laws) C → Triple 𝓤 (C #pen·newline) (Newline 𝓤 H A mem run) → (h : Writer) (w : Val) → HasRoom (h .buf .now) (h .at) lineEnd
         → Opds K W (raw (Newline 𝓤 H A mem run .pre (to-newline h w)) ∷ Γ) E xs (w ∷ [])
         → ((w′ : Val) → IsW w′ → Seq K W (‵ (flft κ q) ∷ ‵ (R .own (wrote h lineEnd) (w′ ∷ [])) ∷ Γ) (lands C Λ E d w′ rest p))
         → Seq K W (‵ (flft κ q) ∷ ‵ (R .own h (w ∷ [])) ∷ Γ) (runs C Λ E (seq (call #pen·newline xs d) rest) p)
@@ -156,7 +156,7 @@ module _ {M : Type 1} {𝓤 : URA M} {H : Heap 𝓤} {A : Atoms 𝓤} (W : Given
         nothing t $ nothing t $ move t (2 ∷ 0 ∷ 3 ∷ []) $
         write-call t fm (Newline 𝓤 H A mem run) known (to-newline h w) (‵ ftrue) ftrue h w lineEnd within (id⊢ 𝓤 _) (lasts newline.ended (κ, tt) (h, tt)) (λ w′. id⊢ 𝓤 _) os (λ w′ g. move t (2 ∷ []) $ drop t $ k w′ g)
 
-    pub word-call : (κ′ : Lft) (q′ : Share) → K → FmC 𝓤 H (W .laws) C → Triple 𝓤 (C #pen·word) (Word 𝓤 H A mem run) → (h : Writer) (v : RefT (List ℕ)) (w : Val) → Fits (h .buf .now) (h .at) (v .now)
+    pub word-call : (κ′ : Lft) (q′ : Share) → K → FmC 𝓤 H (W .laws) C → Triple 𝓤 (C #pen·word) (Word 𝓤 H A mem run) → (h : Writer) (v : RefT (List ℕ)) (w : Val) → HasRoom (h .buf .now) (h .at) (v .now)
         → Opds K W (raw (Word 𝓤 H A mem run .pre (to-word κ′ q′ h v w)) ∷ Γ) E xs (w ∷ sliceVal (v .ptr) (length (v .now)) ∷ [])
         → ((w′ : Val) → IsW w′ → Seq K W (‵ (flft κ q) ∷ ‵ (R .own (wrote h (v .now)) (w′ ∷ [])) ∷ ‵ (flft κ′ q′) ∷ Γ) (lands C Λ E d w′ rest p))
         → Seq K W (‵ (flft κ q) ∷ ‵ (R .own h (w ∷ [])) ∷ ‵ (flft κ′ q′) ∷ ‵ (ShrSlice (named 1) κ′ u8 .own v (sliceVal (v .ptr) (length (v .now)) ∷ [])) ∷ Γ) (runs C Λ E (seq (call #pen·word xs d) rest) p)

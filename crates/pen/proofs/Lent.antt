@@ -29,7 +29,7 @@ use denote.Signature.Struct.{makes}
 use denote.Triple.Statement.{Contract, Triple}
 use denote.Triple.Call.{calls-at}
 use denote.Triple.Walked.{says}
-use Rattle.pen.specs.Lines.{Fits, Put}
+use Rattle.pen.specs.Lines.{HasRoom, Put}
 use Rattle.pen.proofs.Writer as T
 use Rattle.pen.proofs.Again.{LentAgain, lends-again, comes-back}
 
@@ -51,7 +51,7 @@ module _ {M : Type 1} {𝓤 : URA M} {H : Heap 𝓤} {A : Atoms 𝓤} (W : Given
 
     -- what a put asks of a slice lent for ν under the name δ, besides T of the tokens and O of the other parameters: that the text fits
     abbrev pub Asked : Item 𝓤 → Fml → ℕ → GName → SProp 𝓤
-    Asked T O ν δ = sep 𝓤 (⋆ 𝓤 H A ((‵ (flft (ν ∷ []) fullShare) ⊛ T) ∷ ‵ (fsep (lent (ν ∷ []) δ ys) (fsep (usize .own at (vint w64 at ∷ [])) O)) ∷ [])) (fact 𝓤 (Fits ys at text))
+    Asked T O ν δ = sep 𝓤 (⋆ 𝓤 H A ((‵ (flft (ν ∷ []) fullShare) ⊛ T) ∷ ‵ (fsep (lent (ν ∷ []) δ ys) (fsep (usize .own at (vint w64 at ∷ [])) O)) ∷ [])) (fact 𝓤 (HasRoom ys at text))
 
     -- what it hands back: T, its result r, and the last list of the slice, of which its contract speaks
     abbrev pub Told : Item 𝓤 → {Z : Type 0} → (Z → List ℕ) → (Z → Fml) → ℕ → GName → Val → Item 𝓤
@@ -59,7 +59,7 @@ module _ {M : Type 1} {𝓤 : URA M} {H : Heap 𝓤} {A : Atoms 𝓤} (W : Given
         ⊛ some (λ (z : Z). ‵ (fsep (fsep (finally u8 δ (last z)) (feq ℕ (length (last z)) (length ys))) (more z)) ⊛ raw (fact 𝓤 (Put ys at text (last z) r)))))
 
     module _ {K : Type 0} {Γ : List (Item 𝓤)} {E : Env 𝓤 H} {C : Calls 𝓤 H} {Λ : Loops 𝓤 H} {p : Post 𝓤 H} {f : Name} {xs : List Operand} {d : Place} {rest : Body} where
-      pub put-call : K → FmC 𝓤 H (W .laws) C → Room u8 (length ys) → at < 2 ^ 64 → Fits ys at text → (P : Contract 𝓤) → Triple 𝓤 (C f) P → (g : ℕ → GName → P .Ghost) (T : Item 𝓤) (O : Fml)
+      pub put-call : K → FmC 𝓤 H (W .laws) C → Room u8 (length ys) → at < 2 ^ 64 → HasRoom ys at text → (P : Contract 𝓤) → Triple 𝓤 (C f) P → (g : ℕ → GName → P .Ghost) (T : Item 𝓤) (O : Fml)
           → ((ν : ℕ) (δ : GName) → ent 𝓤 (Asked T O ν δ) (P .pre (g ν δ)))
           → {Z : Type 0} (last : Z → List ℕ) (more : Z → Fml) → ((ν : ℕ) (δ : GName) (w : Val) → ent 𝓤 (P .post (g ν δ) w) (mean 𝓤 H A (Told T last more ν δ w)))
           → ((ν : ℕ) (δ : GName) → Opds K W (raw (P .pre (g ν δ)) ∷ ‵ (LentAgain u8 κ (ν ∷ []) q γ b o δ ys) ∷ Γ) E xs (P .args (g ν δ)))

@@ -2,7 +2,7 @@
 use native.Mathlib.Omega.{arith}
 use borrow.Author.Needs.{needs}
 use Rattle.marked.specs.Net.{at}
-use Rattle.pen.specs.Lines.{Fits}
+use Rattle.pen.specs.Lines.{HasRoom}
 use Rattle.pen.proofs.PutLaws.{first-room, then-room, then-put}
 use Rattle.lines.specs.Text.{reportText}
 use Rattle.lines.proofs.FitLaws.{writable-fits}
@@ -11,7 +11,7 @@ use Rattle.lines.proofs.write_report.Tie as tie
 
 -- there is room for the report
 fits : (c : tie.After-shared-slice-known2) → let s : tie.Start = c .before .before .before in
-    Fits (s .args .buf .now) 0 (reportText (s .args .n) (s .args .e) (s .args .a) (s .args .b) (s .args .tbio) (s .args .total) (s .args .tce) (s .args .ring .now) (at (s .args .waits .now)))
+    HasRoom (s .args .buf .now) 0 (reportText (s .args .n) (s .args .e) (s .args .a) (s .args .b) (s .args .tbio) (s .args .total) (s .args .tce) (s .args .ring .now) (at (s .args .waits .now)))
 fits c = let s : tie.Start = c .before .before .before in
     writable-fits (s .pre) (s .args .tbio) (s .args .total) (s .args .tce) (omega arith) (omega arith) (omega arith) (λ i. omega (arith, c .before .shared-slice-known .given i)) (λ t. omega (arith, c .shared-slice-known2 .given t))
 

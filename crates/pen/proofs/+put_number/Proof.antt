@@ -39,7 +39,7 @@ put-number-same-length : (t : ℕ) → put-number-lts.Need-same-length (put-numb
 put-number-same-length t c = search needs
 
 put-number-returns : (t : ℕ) → put-number-lts.Need-returns (put-number-below t, put-number.Post) (put-number-at t) put-number.Post
-put-number-returns t c = rw (digits-small (c .before .before .args .n) (omega arith)) (record { place = refl; bytes = refl })
+put-number-returns t c = rw (digits-small (c .before .before .args .n) (omega arith)) (record { place = refl; stands = refl })
 
 put-number-put-number-requires : (t : ℕ) → put-number-lts.Need-put-number-requires (put-number-below t, put-number.Post) (put-number-at t) put-number.Post
 put-number-put-number-requires t c κs = (search needs, first-room _ (rw (digits-more (c .before .before .before .args .n) (omega arith)) at (c .before .before .before .pre .1)))

@@ -32,7 +32,7 @@ use denote.Triple.Walked.{says, needs, Stays, stay-dropped, gave-slice, walkOf, 
 use denote.Exit.{yes}
 use denote.Signature.{plain}
 use Rattle.pen.specs.declared.Writer.{Writer}
-use Rattle.pen.specs.Lines.{Fits, wrote, lineEnd}
+use Rattle.pen.specs.Lines.{HasRoom, wrote, lineEnd}
 use Rattle.pen.proofs.PutLaws.{wrote-put, put-length}
 use Rattle.pen.proofs.Calls.{Resume, Newline, Fill, resume-call, newline-call, fill-call}
 use Rattle.pen.proofs.resume.Symbol as resume-def
@@ -57,7 +57,7 @@ abbrev Known : {M : Type 1} (𝓤 : URA M) (H : Heap 𝓤) (A : Atoms 𝓤) (mem
 Known 𝓤 H A mem run C = Triple 𝓤 (C #pen·resume) (Resume 𝓤 H A mem run) × Triple 𝓤 (C #pen·newline) (Newline 𝓤 H A mem run) × Triple 𝓤 (C #pen·fill) (Fill 𝓤 H A mem run)
 
 module _ {M : Type 1} (𝓤 : URA M) (H : Heap 𝓤) (A : Atoms 𝓤) (W : Given 𝓤 H A) (mem : Memory → SProp 𝓤) (run : Routine → Fun 𝓤) (κ : Lft) (q : Share) (b o : ℕ) (γ : GName) (ys : List ℕ) (at : ℕ)
-    (at-fits : at < 2 ^ 64) (more : Fits ys at lineEnd) where
+    (at-fits : at < 2 ^ 64) (more : HasRoom ys at lineEnd) where
   abbrev x : RefT (List ℕ)
   x = record { ptr = (b, o); name = γ; now = ys }
 
@@ -122,7 +122,7 @@ end-line-meets 𝓤 H A W mem run 𝓣 known =
     (goes-gave-slice 𝓤 H A W 1 0 tt (plain (λ _. u8)), (goes-dropped 𝓤 H A W 1 (plain (λ _. usize)) yes (λ κs x f. refl), tt))
     (end-line.clauses 𝓤 H A mem run) (WpFn 𝓤 H (𝓣 .C) (𝓣 .Λ) code.function) (WpFn-mono 𝓤 H (W .laws) 𝓣 code.function) (walked 𝓤 H A end-line.ended stayed (end-line.clauses 𝓤 H A mem run) (WpFn 𝓤 H (𝓣 .C) (𝓣 .Λ) code.function)
     (λ κs. (slice-vals, (uint-vals w64, tt))) (λ κs. (mut-slice-tells (named 0) (κs .0) u8, (uint-tells w64, tt)))
-    (λ κs qs bounds a g are. needs 𝓤 (Fits (a .0 .now) (a .1 .0) lineEnd) _ (λ more.
+    (λ κs qs bounds a g are. needs 𝓤 (HasRoom (a .0 .now) (a .1 .0) lineEnd) _ (λ more.
     walk 𝓤 H A W mem run (κs .0) (qs .0) (a .0 .ptr .0) (a .0 .ptr .1) (a .0 .name) (a .0 .now) (a .1 .0) (are .1 .0 .1) more (𝓣 .C) (𝓣 .Λ) (fmOf 𝓤 H (W .laws) 𝓣) known (are .0 .0 .1))))
 
 pub end-line-spec : {M : Type 1} → stated.statement M

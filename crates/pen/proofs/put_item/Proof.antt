@@ -33,7 +33,7 @@ use denote.Exit.{yes}
 use denote.Signature.{Slot, plain, shrSliceOf}
 use Rattle.pen.specs.declared.Writer.{Writer}
 use Rattle.pen.specs.Digits.{digits}
-use Rattle.pen.specs.Lines.{Fits, Put, wrote, item}
+use Rattle.pen.specs.Lines.{HasRoom, Put, wrote, item}
 use Rattle.pen.proofs.PutLaws.{then-put, put-length, wrote-put, wrote-room}
 use Rattle.pen.proofs.Calls.{Resume, Word, Number, Fill, resume-call, word-call, number-call, fill-call}
 use Rattle.pen.proofs.resume.Symbol as resume-def
@@ -65,7 +65,7 @@ abbrev Known : {M : Type 1} (𝓤 : URA M) (H : Heap 𝓤) (A : Atoms 𝓤) (mem
 Known 𝓤 H A mem run C = Triple 𝓤 (C #pen·resume) (Resume 𝓤 H A mem run) × Triple 𝓤 (C #pen·word) (Word 𝓤 H A mem run) × Triple 𝓤 (C #pen·number) (Number 𝓤 H A mem run) × Triple 𝓤 (C #pen·fill) (Fill 𝓤 H A mem run)
 
 module _ {M : Type 1} (𝓤 : URA M) (H : Heap 𝓤) (A : Atoms 𝓤) (W : Given 𝓤 H A) (mem : Memory → SProp 𝓤) (run : Routine → Fun 𝓤) (κ κ′ : Lft) (q q′ : Share) (b o : ℕ) (γ : GName) (ys : List ℕ) (at : ℕ) (name : RefT (List ℕ)) (n : ℕ)
-    (at-fits : at < 2 ^ 64) (n-fits : n < 2 ^ 64) (more : Fits ys at (item (name .now) n)) where
+    (at-fits : at < 2 ^ 64) (n-fits : n < 2 ^ 64) (more : HasRoom ys at (item (name .now) n)) where
   abbrev x : RefT (List ℕ)
   x = record { ptr = (b, o); name = γ; now = ys }
 
@@ -86,7 +86,7 @@ module _ {M : Type 1} (𝓤 : URA M) (H : Heap 𝓤) (A : Atoms 𝓤) (W : Given
   h₂ = wrote h₁ (digits n)
 
   -- there is room for each
-  f₁ : Fits (h₀ .buf .now) (h₀ .at) (name .now) × Fits (h₁ .buf .now) (h₁ .at) (digits n)
+  f₁ : HasRoom (h₀ .buf .now) (h₀ .at) (name .now) × HasRoom (h₁ .buf .now) (h₁ .at) (digits n)
   unfolding item
   f₁ = wrote-room h₀ (name .now) (digits n) more
 
@@ -147,7 +147,7 @@ put-item-meets 𝓤 H A W mem run 𝓣 known =
     (goes-gave-slice 𝓤 H A W 2 0 tt (plain (λ _. u8)), (goes-dropped 𝓤 H A W 2 (plain (λ _. usize)) yes (λ κs x f. refl), (goes-dropped 𝓤 H A W 2 WordS yes (λ κs x f. refl), (goes-dropped 𝓤 H A W 2 (plain (λ _. u64)) yes (λ κs x f. refl), tt))))
     (put-item.clauses 𝓤 H A mem run) (WpFn 𝓤 H (𝓣 .C) (𝓣 .Λ) code.function) (WpFn-mono 𝓤 H (W .laws) 𝓣 code.function) (walked 𝓤 H A put-item.ended stayed (put-item.clauses 𝓤 H A mem run) (WpFn 𝓤 H (𝓣 .C) (𝓣 .Λ) code.function)
     (λ κs. (slice-vals, (uint-vals w64, (slice-vals, (uint-vals w64, tt))))) (λ κs. (mut-slice-tells (named 0) (κs .0) u8, (uint-tells w64, (shr-slice-tells (named 1) (κs .1 .0) u8, (uint-tells w64, tt)))))
-    (λ κs qs bounds a g are. needs 𝓤 (Fits (a .0 .now) (a .1 .0) (item (a .1 .1 .0 .now) (a .1 .1 .1 .0))) _ (λ more.
+    (λ κs qs bounds a g are. needs 𝓤 (HasRoom (a .0 .now) (a .1 .0) (item (a .1 .1 .0 .now) (a .1 .1 .1 .0))) _ (λ more.
     walk 𝓤 H A W mem run (κs .0) (κs .1 .0) (qs .0) (qs .1 .0) (a .0 .ptr .0) (a .0 .ptr .1) (a .0 .name) (a .0 .now) (a .1 .0) (a .1 .1 .0) (a .1 .1 .1 .0) (are .1 .0 .1) (are .1 .1 .1 .0 .1) more (𝓣 .C) (𝓣 .Λ) (fmOf 𝓤 H (W .laws) 𝓣) known (are .0 .0 .1) (are .1 .1 .0 .0 .1))))
 
 pub put-item-spec : {M : Type 1} → stated.statement M

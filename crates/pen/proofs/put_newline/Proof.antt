@@ -18,7 +18,7 @@ same-length c = search needs
 
 returns : tie.Need-returns
 unfolding lineEnd
-returns c = record { place = refl; bytes = refl }
+returns c = record { place = refl; stands = refl }
 
 pub put-newline-spec : {M : Type 1} → statement M
 put-newline-spec = tie.close (tie.spec slice-write-buf add-result same-length returns)

@@ -5,19 +5,19 @@ use native.Mathlib.Omega.{arith}
 use borrow.Author.Needs.{needs}
 use lib.ListN.{length, take}
 use lib.Seq.{take-all}
-use Rattle.pen.specs.Lines.{Fits, Put}
+use Rattle.pen.specs.Lines.{HasRoom, Put}
 use Rattle.pen.proofs.PutLaws.{put-length, put-next}
 use Rattle.pen.proofs.put_word.Statement.{statement}
 use Rattle.pen.proofs.put_word.Tie as tie
 
 abbrev Inv-loop : tie.InvT-loop
-Inv-loop buf₀ at s i₀ buf i = (i ≤ length s) × Fits buf₀ at s × Put buf₀ at (take i s) buf (at + i)
+Inv-loop buf₀ at s i₀ buf i = (i ≤ length s) × HasRoom buf₀ at s × Put buf₀ at (take i s) buf (at + i)
 
 abbrev μ-loop : tie.MeasureT-loop
 μ-loop buf₀ at s i₀ buf i = length s - i
 
 loop-holds : tie.Need-loop-holds Inv-loop μ-loop
-loop-holds c = (omega arith, c .pre, record { place = omega arith; bytes = refl })
+loop-holds c = (omega arith, c .pre, record { place = omega arith; stands = refl })
 
 shared-slice-read-buf : tie.Need-shared-slice-read-buf Inv-loop μ-loop
 shared-slice-read-buf c = search needs

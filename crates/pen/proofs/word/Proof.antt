@@ -35,7 +35,7 @@ use denote.Triple.Walked.{says, needs, Stays, stay-dropped, goes-dropped, walkOf
 use denote.Exit.{yes}
 use denote.Signature.{Slot, plain, shrSliceOf, namedLft}
 use Rattle.pen.specs.declared.Writer.{Writer}
-use Rattle.pen.specs.Lines.{Fits, Put}
+use Rattle.pen.specs.Lines.{HasRoom, Put}
 use Rattle.pen.proofs.Writer as T
 use Rattle.pen.proofs.Writer.Laws as T′
 use Rattle.pen.proofs.Held.{writer-spent, writer-spent-goes}
@@ -96,11 +96,11 @@ module _ {M : Type 1} (𝓤 : URA M) (H : Heap 𝓤) (A : Atoms 𝓤) (W : Given
   exits : (r : ℕ) (zs : List ℕ) → Put ys at (s .now) zs r → r < 2 ^ 64 → ent 𝓤 (⋆ 𝓤 H A (‵ (lent W κ q b o γ ys at (s .now) κ γ zs) ∷ ‵ (flft κ q) ∷ (‵ (flft κ′ q′) ⊛ ‵ ftrue) ∷ [])) (Post (mach r))
   exits r zs e fits =
       qed W (‵ (lent W κ q b o γ ys at (s .now) κ γ zs) ∷ ‵ (flft κ q) ∷ (‵ (flft κ′ q′) ⊛ ‵ ftrue) ∷ []) ∵
-      suffices ! _ (ends-at 𝓤 H A word.ended stayed (word.clauses 𝓤 H A mem run) W (((κ, (κ′, tt)), (q, (q′, tt)), tt, a, vals), tt) (mach r) (record { buf = x γ zs; at = r }) ((tt, tt), (tt, tt)) (tt, (tt, tt))) $ says ! (λ i. record { buf = x γ (e .bytes i); at = e .place i }) $
+      suffices ! _ (ends-at 𝓤 H A word.ended stayed (word.clauses 𝓤 H A mem run) W (((κ, (κ′, tt)), (q, (q′, tt)), tt, a, vals), tt) (mach r) (record { buf = x γ zs; at = r }) ((tt, tt), (tt, tt)) (tt, (tt, tt))) $ says ! (λ i. record { buf = x γ (e .stands i); at = e .place i }) $
       move ! (1 ∷ 2 ∷ []) $ join ! $ frame ! $ use1 W (‵ (T.the-row α .own (record { buf = x γ zs; at = r }) (mach r ∷ []))) (shuts W κ q (x γ zs) slice r fits) $ nothing ! $ nothing ! $ fjoin ! $ nothing ! $ fjoin ! $ done !
 
   module _ (C : Calls 𝓤 H) (Λ : Loops 𝓤 H) (fm : FmC 𝓤 H (W .laws) C) (known : Triple 𝓤 (C #pen·put-word) (PutWord 𝓤 H A mem run)) where
-    walk : Is (T.the-row α) (a .0) (mach at ∷ []) → Room u8 (length ys) → Room u8 (length (s .now)) → Fits ys at (s .now) → ent 𝓤 (onEntry 𝓤 H A word.signature (κ, (κ′, tt)) (q, (q′, tt)) a vals) (WpFn 𝓤 H C Λ code.function (mach at ∷ vs ∷ []) Post)
+    walk : Is (T.the-row α) (a .0) (mach at ∷ []) → Room u8 (length ys) → Room u8 (length (s .now)) → HasRoom ys at (s .now) → ent 𝓤 (onEntry 𝓤 H A word.signature (κ, (κ′, tt)) (q, (q′, tt)) a vals) (WpFn 𝓤 H C Λ code.function (mach at ∷ vs ∷ []) Post)
     walk g room room-s within =
         qed W ((‵ (flft κ q) ⊛ ‵ (flft κ′ q′) ⊛ ‵ ftrue) ∷ ‵ (owns (T.the-row α ∷ ShrSlice (named 1) κ′ u8 ∷ []) a vals) ∷ []) ∵ enter ! C Λ code.function (mach at ∷ vs ∷ []) _ $
         alloc1 ! (λ l₀. alloc1 ! (λ l₁. alloc1 ! (λ l₂. alloc1 ! (λ l₃. alloc1 ! (λ l₄. alloc1 ! (λ l₅. alloc0 ! $ params1 ! $
@@ -126,7 +126,7 @@ word-meets 𝓤 H A W mem run 𝓣 known =
     walk-meets 𝓤 H A word.ended stayed W (writer-spent-goes 2 tt 𝓤 H A W, (goes-dropped 𝓤 H A W 2 WordS yes (λ κs x f. refl), tt)) (word.clauses 𝓤 H A mem run)
     (WpFn 𝓤 H (𝓣 .C) (𝓣 .Λ) code.function) (WpFn-mono 𝓤 H (W .laws) 𝓣 code.function) (walked 𝓤 H A word.ended stayed (word.clauses 𝓤 H A mem run) (WpFn 𝓤 H (𝓣 .C) (𝓣 .Λ) code.function)
     (λ κs. (LL.vals (T.the-type (namedLft 2 0 tt κs)) (T′.the-laws (namedLft 2 0 tt κs)), (slice-vals, tt))) (λ κs. (LL.tells (T.the-type (namedLft 2 0 tt κs)) (T′.the-laws (namedLft 2 0 tt κs)), (shr-slice-tells (named 1) (κs .1 .0) u8, tt)))
-    (λ κs qs bounds a g are. needs 𝓤 (Fits (a .0 .buf .now) (a .0 .at) (a .1 .0 .now)) _ (λ within.
+    (λ κs qs bounds a g are. needs 𝓤 (HasRoom (a .0 .buf .now) (a .0 .at) (a .1 .0 .now)) _ (λ within.
     let fields = LL.owed (T.the-type (namedLft 2 0 tt κs)) (T′.the-laws (namedLft 2 0 tt κs)) (a .0) _ (are .0) in
     walk 𝓤 H A W mem run (κs .0) (κs .1 .0) (qs .0) (qs .1 .0) (a .0 .buf .ptr .0) (a .0 .buf .ptr .1) (a .0 .buf .name) (a .0 .buf .now) (a .0 .at) (a .1 .0) (fields .1 .0 .1) (𝓣 .C) (𝓣 .Λ) (fmOf 𝓤 H (W .laws) 𝓣) known (are .0) (fields .0 .0 .1) (are .1 .0 .0 .1) within)))
 

@@ -7,7 +7,7 @@ use lib.Seq.{length-take-le}
 use Rattle.pen.specs.Lines.{lineEnd, item, itemLine, pairLine}
 use Rattle.pen.proofs.DigitLaws.{digits-short}
 use Rattle.pen.proofs.PutLaws.{put-within}
-use Rattle.pen_main.specs.Page.{row, page}
+use Rattle.pen_main.specs.Page.{numberRow, page}
 use Rattle.pen_main.proofs.main.Statement.{statement}
 use Rattle.pen_main.proofs.main.Tie as tie
 
@@ -18,7 +18,7 @@ slice-aggregate-put-page-2 : tie.Need-slice-aggregate-put-page-2
 slice-aggregate-put-page-2 c = search needs
 
 put-page-requires : tie.Need-put-page-requires
-unfolding page row pairLine itemLine item lineEnd
+unfolding page numberRow pairLine itemLine item lineEnd
 put-page-requires c κs = record { room = simp length-append (omega (arith, digits-short 0 0 (omega arith), digits-short 0 9 (omega arith), digits-short 1 10 (omega arith), digits-short 19 18446744073709551615 (omega arith))) }
 
 array-share-prefix-buf : tie.Need-array-share-prefix-buf
