@@ -12,7 +12,8 @@ slice-aggregate-pair-line-2 : tie.Need-slice-aggregate-pair-line-2
 slice-aggregate-pair-line-2 c = search needs
 
 pair-line-requires : tie.Need-pair-line-requires
-pair-line-requires c κs = record { room = omega (arith, refused-fits (c .before .before .before .before .args .number) (c .before .before .before .before .args .place) (omega arith) (omega arith)) }
+pair-line-requires c κs = let s : tie.Start = c .before .before .before .before in
+    record { room = omega (arith, refused-fits (s .args .number) (s .args .place) (omega arith) (omega arith)) }
 
 same-length : tie.Need-same-length
 same-length c = search needs

@@ -35,7 +35,7 @@ loop-less : tie.Need-loop-less Inv-loop μ-loop
 loop-less c = search needs
 
 loop-again : tie.Need-loop-again Inv-loop μ-loop
-loop-again c = (omega arith, c .before .before .loop .inv .1, put-next (c .before .before .before .args .s .now) (c .before .before .loop .i) (omega arith) (c .before .before .loop .inv .2))
+loop-again c = let l = c .before .before in (omega arith, l .loop .inv .1, put-next (l .before .args .s .now) (l .loop .i) (omega arith) (l .loop .inv .2))
 
 add-result : tie.Need-add-result Inv-loop μ-loop
 add-result c = search needs
@@ -47,4 +47,5 @@ returns : tie.Need-returns Inv-loop μ-loop
 returns c = rw (take-all (c .before .loop .i) (c .before .before .args .s .now) (omega arith)) at (c .before .loop .inv .2)
 
 pub put-word-spec : {M : Type 1} → statement M
-put-word-spec = tie.close (tie.spec Inv-loop μ-loop loop-holds shared-slice-read-buf add-buf slice-write-buf add-i loop-less loop-again add-result same-length returns)
+put-word-spec = tie.close (tie.spec Inv-loop μ-loop
+    loop-holds shared-slice-read-buf add-buf slice-write-buf add-i loop-less loop-again add-result same-length returns)

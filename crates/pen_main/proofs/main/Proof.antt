@@ -19,7 +19,10 @@ slice-aggregate-put-page-2 c = search needs
 
 put-page-requires : tie.Need-put-page-requires
 unfolding page numberRow pairLine itemLine item lineEnd
-put-page-requires c κs = record { room = simp length-append (omega (arith, digits-short 0 0 (omega arith), digits-short 0 9 (omega arith), digits-short 1 10 (omega arith), digits-short 19 18446744073709551615 (omega arith))) }
+put-page-requires c κs = record {
+  room = simp length-append
+    (omega (arith, digits-short 0 0 (omega arith), digits-short 0 9 (omega arith), digits-short 1 10 (omega arith), digits-short 19 18446744073709551615 (omega arith)));
+}
 
 array-share-prefix-buf : tie.Need-array-share-prefix-buf
 array-share-prefix-buf c = put-within (c .before .put-page .ensures) (put-page-requires (c .before .before) (c .before .put-page .lifetimes))
@@ -34,4 +37,5 @@ returns : tie.Need-returns
 returns c = search needs
 
 pub main-spec : {M : Type 1} → statement M
-main-spec = tie.close (tie.spec slice-aggregate-put-page slice-aggregate-put-page-2 put-page-requires array-share-prefix-buf slice-aggregate-write-all write-all-requires returns)
+main-spec = tie.close (tie.spec
+    slice-aggregate-put-page slice-aggregate-put-page-2 put-page-requires array-share-prefix-buf slice-aggregate-write-all write-all-requires returns)

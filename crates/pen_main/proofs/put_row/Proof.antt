@@ -38,7 +38,7 @@ loop-less : tie.Need-loop-less Inv-loop μ-loop
 loop-less c = search needs
 
 loop-again : tie.Need-loop-again Inv-loop μ-loop
-loop-again c = putting-on (c .before .before .before .before .before .before .before .loop .inv) (omega arith) (c .before .before .put-item .ensures)
+loop-again c = let p = c .before .before in putting-on (p .before .before .before .before .before .loop .inv) (omega arith) (p .put-item .ensures)
 
 same-length : tie.Need-same-length Inv-loop μ-loop
 same-length c = put-length (c .before .loop .inv .put)
@@ -48,4 +48,5 @@ unfolding numberRow
 returns c = putting-end (c .before .loop .inv) (omega arith)
 
 pub put-row-spec : {M : Type 1} → statement M
-put-row-spec = tie.close (tie.spec Inv-loop μ-loop loop-holds slice-aggregate-put-item mul-put-item shared-slice-read-put-item put-item-requires add-i loop-less loop-again same-length returns)
+put-row-spec = tie.close (tie.spec Inv-loop μ-loop
+    loop-holds slice-aggregate-put-item mul-put-item shared-slice-read-put-item put-item-requires add-i loop-less loop-again same-length returns)

@@ -34,7 +34,7 @@ loop-less : tie.Need-loop-less Inv-loop μ-loop
 loop-less c = search needs
 
 loop-again : tie.Need-loop-again Inv-loop μ-loop
-loop-again c = putting-on (c .before .before .before .before .before .before .loop .inv) (omega arith) (c .before .before .ring-place .ensures)
+loop-again c = let p = c .before .before in putting-on (p .before .before .before .before .loop .inv) (omega arith) (p .ring-place .ensures)
 
 same-length : tie.Need-same-length Inv-loop μ-loop
 same-length c = put-length (c .before .loop .inv .put)

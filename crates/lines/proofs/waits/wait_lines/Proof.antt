@@ -40,7 +40,7 @@ loop-less : tie.Need-loop-less Inv-loop μ-loop
 loop-less c = search needs
 
 loop-again : tie.Need-loop-again Inv-loop μ-loop
-loop-again c = putting-on (c .before .before .before .before .before .before .loop .inv) (omega arith) (c .before .before .wait-line .ensures)
+loop-again c = let p = c .before .before in putting-on (p .before .before .before .before .loop .inv) (omega arith) (p .wait-line .ensures)
 
 same-length : tie.Need-same-length Inv-loop μ-loop
 same-length c = put-length (c .before .loop .inv .put)
@@ -50,4 +50,5 @@ unfolding waitLines
 returns c = putting-end (c .before .loop .inv) (omega arith)
 
 pub wait-lines-spec : {M : Type 1} → statement M
-wait-lines-spec = tie.close (tie.spec Inv-loop μ-loop loop-holds mul-loop add-loop mul-wait-line shared-slice-read-wait-line wait-line-requires add-t loop-less loop-again same-length returns)
+wait-lines-spec = tie.close (tie.spec Inv-loop μ-loop
+    loop-holds mul-loop add-loop mul-wait-line shared-slice-read-wait-line wait-line-requires add-t loop-less loop-again same-length returns)
