@@ -1,3 +1,5 @@
+-- The laws and walks of the pen, lowest first.
+pub mod Logic
 pub mod DigitLaws
 pub mod PutLaws
 pub mod Again
