@@ -31,7 +31,8 @@ module _ (n : ℕ) (ok : Within n 0) where
   stays = (stay-slice (0 ∷ []) ok (plain (λ _. u8)), (stay-none (λ _. usize) yes, tt))
 
   abbrev pub writer-stay : Stay WriterS yes
-  writer-stay = stay-declared (structAt name (named 0 ∷ []) slots) yes (stay-struct-at name (named 0 ∷ []) slots yes stays) Writer (λ κs. T.the-type (namedLft n 0 ok κs) .to) (λ κs. T.the-type (namedLft n 0 ok κs) .to-one)
+  writer-stay = stay-declared (structAt name (named 0 ∷ []) slots) yes (stay-struct-at name (named 0 ∷ []) slots yes stays) Writer
+      (λ κs. T.the-type (namedLft n 0 ok κs) .to) (λ κs. T.the-type (namedLft n 0 ok κs) .to-one)
 
   abbrev pub writer-spent : Stay WriterS no
   writer-spent = stay-dropped WriterS no
@@ -53,7 +54,8 @@ module _ (n : ℕ) (ok : Within n 0) where
 
     pub writer-goes : Goes 𝓤 H A W n WriterS yes writer-stay
     writer-goes =
-        goes-declared 𝓤 H A W n (structAt name (named 0 ∷ []) slots) yes (stay-struct-at name (named 0 ∷ []) slots yes stays) Writer (λ κs. T.the-type (namedLft n 0 ok κs) .to) (λ κs. T.the-type (namedLft n 0 ok κs) .to-one)
+        goes-declared 𝓤 H A W n (structAt name (named 0 ∷ []) slots) yes (stay-struct-at name (named 0 ∷ []) slots yes stays) Writer
+        (λ κs. T.the-type (namedLft n 0 ok κs) .to) (λ κs. T.the-type (namedLft n 0 ok κs) .to-one)
         (goes-struct-at 𝓤 H A W n name (named 0 ∷ []) slots yes stays (goes-slice 𝓤 H A W n 0 ok (plain (λ _. u8)), (goes-none 𝓤 H A W n (λ _. usize) yes (λ κs x f. refl), tt)))
 
     pub writer-spent-goes : Goes 𝓤 H A W n WriterS no writer-spent

@@ -6,7 +6,7 @@
 use contract.Lifetimes.{Lfts, Shares, AllOutlive}
 use mir.Syntax.{Ty, Fn, copy, place}
 use base.Fml.{fdies, fat}
-use types.Kit.{Step, step, Goal, nth, del, sel⊢, frees}
+use types.Kit.{Step, step, Goal, nth, sel, sel⊢, frees}
 use types.Run.{Opd}
 use prog.Wp.{spotOf}
 use Prim.Native.Nat.{zero}
@@ -36,11 +36,8 @@ module _ {M : Type 1} {𝓤 : URA M} {H : Heap 𝓤} {A : Atoms 𝓤} {K : Type 
   pub var : K → (n : ℕ) {i : ℕ} {q : Share} {v : Val} → nth 𝓤 H A n Γ ≡ ‵ (fat q (spotOf 𝓤 H E i .0) (spotOf 𝓤 H E i .1) (spotOf 𝓤 H E i .2) v) → Opd K W Γ E (copy (place i [])) v
   var t n e = load t (from t (stop t)) (look t n e)
 
-  pub free-at : K → (n : ℕ) {τ : Ty} {b : ℕ} {v : Val} {g : Goal 𝓤 H} → nth 𝓤 H A n Γ ≡ ‵ (fat fullShare τ b zero v) → nth 𝓤 H A n (del 𝓤 H A n Γ) ≡ ‵ (fdies τ b)
-      → Step K W (del 𝓤 H A n (del 𝓤 H A n Γ)) (frees E g) Γ (frees ((τ, b) ∷ E) g)
-  free-at t n {τ} {b} {v} {g} e d = step (λ s.
-      let rest : List (Item 𝓤) = del 𝓤 H A n (del 𝓤 H A n Γ) in
-      let freed : Seq K W (‵ (fat fullShare τ b zero v) ∷ ‵ (fdies τ b) ∷ rest) (frees ((τ, b) ∷ E) g) = forget t 0 refl $ free1 t $ s in
-      by t (via 𝓤 (⋆ 𝓤 H A (‵ (fat fullShare τ b zero v) ∷ ‵ (fdies τ b) ∷ rest))
-      (subst (λ (i : Item 𝓤). ent 𝓤 (⋆ 𝓤 H A Γ) (⋆ 𝓤 H A (‵ (fat fullShare τ b zero v) ∷ i ∷ rest))) d
-      (subst (λ (i : Item 𝓤). ent 𝓤 (⋆ 𝓤 H A Γ) (⋆ 𝓤 H A (i ∷ nth 𝓤 H A n (del 𝓤 H A n Γ) ∷ rest))) e (sel⊢ 𝓤 H A (n ∷ n ∷ []) Γ))) (freed .prf)))
+  pub free-at : K → (n : ℕ) {τ : Ty} {b : ℕ} {v : Val} {g : Goal 𝓤 H} {Γ′ : List (Item 𝓤)} → sel 𝓤 H A (n ∷ n ∷ []) Γ ≡ ‵ (fat fullShare τ b zero v) ∷ ‵ (fdies τ b) ∷ Γ′
+      → Step K W Γ′ (frees E g) Γ (frees ((τ, b) ∷ E) g)
+  free-at t n {τ} {b} {v} {g} {Γ′} e = step (λ s.
+      let freed : Seq K W (‵ (fat fullShare τ b zero v) ∷ ‵ (fdies τ b) ∷ Γ′) (frees ((τ, b) ∷ E) g) = forget t 0 refl $ free1 t $ s in
+      by t (via 𝓤 (⋆ 𝓤 H A (‵ (fat fullShare τ b zero v) ∷ ‵ (fdies τ b) ∷ Γ′)) (subst (λ (Δ : List (Item 𝓤)). ent 𝓤 (⋆ 𝓤 H A Γ) (⋆ 𝓤 H A Δ)) e (sel⊢ 𝓤 H A (n ∷ n ∷ []) Γ)) (freed .prf)))

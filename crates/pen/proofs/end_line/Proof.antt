@@ -52,7 +52,7 @@ end-line-meets 𝓤 H A W mem run 𝓣 resumes ends fills =
     land ! (from ! (stop !)) (init ! 6 refl g₀) $ newline-call W mem run (κs .0) (qs .0) ! fm ends h₀ w₀ more (and-then ! (var ! 5 refl) (no-more !)) (λ w₁ g₁.
     land ! (from ! (stop !)) (init ! 8 refl g₁) $ fill-call W mem run (κs .0) (qs .0) ! fm fills h₁ w₁ (and-then ! (var ! 7 refl) (no-more !)) (λ w is.
     land ! (from ! (stop !)) (init ! 15 refl (uint-lawful 𝓤 H A W w64 .typed (h₁ .at) _ is .0)) $
-    returns ! (look ! 15 refl) $ free-at ! 15 refl refl $ free-at ! 13 refl refl $ free-at ! 11 refl refl $ free-at ! 9 refl refl $ free-at ! 7 refl refl $ free-at ! 5 refl refl $ free-at ! 3 refl refl $ free0 ! $
+    returns ! (look ! 15 refl) $ free-at ! 15 refl $ free-at ! 13 refl $ free-at ! 11 refl $ free-at ! 9 refl $ free-at ! 7 refl $ free-at ! 5 refl $ free-at ! 3 refl $ free0 ! $
     suffices ! _ (ends-at 𝓤 H A end-line.ended stayed (end-line.clauses 𝓤 H A mem run) W ((κs, qs, bounds, a, (slice (a .0) ∷ [], (vint w64 (a .1 .0) ∷ [], tt))), g)
       w (h₁ .at) (h₁ .buf .now, (tt, tt)) (put-length (wrote-put h₀ lineEnd), (tt, tt))) $ says ! (wrote-put h₀ lineEnd) $
     nothing ! $ move ! (1 ∷ 0 ∷ []) $ join ! $ frame ! $ nothing ! $ nothing ! $ fjoin ! $ move ! (1 ∷ 0 ∷ []) $ fjoin ! $ done !))))))))))))

@@ -26,7 +26,7 @@ fill-meets 𝓤 H A W mem run 𝓣 =
     qed W ((‵ (flft (κs .0) (qs .0)) ⊛ ‵ ftrue) ∷ ‵ (owns (T.the-row (namedLft 1 0 tt κs) ∷ []) a _) ∷ []) ∵ enter ! (𝓣 .C) (𝓣 .Λ) code.function _ _ $
     alloc1 ! (λ l₀. alloc1 ! (λ l₁. alloc0 ! $ params1 ! $ pass1 ! (init ! 0 refl (writer-typed 1 tt 𝓤 H A W κs (a .0) (are .0) .0)) $ pass0 ! $
     assigns ! (of-opd ! (load ! (from ! (fld ! refl (stop !))) (look-in ! 0 (sub ! 1 refl (whole !))))) (from ! (stop !)) (init ! 2 refl (tt, record { fits = fits })) $
-    returns ! (look ! 2 refl) $ free-at ! 2 refl refl $ free-at ! 0 refl refl $ free0 ! $
+    returns ! (look ! 2 refl) $ free-at ! 2 refl $ free-at ! 0 refl $ free0 ! $
     suffices ! _ (ends-at 𝓤 H A fill.ended stayed (fill.clauses 𝓤 H A mem run) W ((κs, qs, bounds, a, _), g) (vint w64 n) n ((a .0 .buf .now, tt), tt) ((refl, (tt, tt)), tt)) $
     says ! (refl, refl) $ frame ! $ frame ! $ owned ! usize (Is usize) (uint-makes 𝓤 H A W w64) n _ (refl, fits) $ done !))))
 

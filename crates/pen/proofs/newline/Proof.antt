@@ -11,7 +11,6 @@ use Rattle.pen.proofs.Held.{writer-spent, writer-spent-goes, writer-val
 use Rattle.pen.proofs.Lent.{slice, mach, under, lent, opens, put-call, shuts}
 use Rattle.pen.proofs.put_newline as put-newline
 use Rattle.pen.proofs.put_newline.Symbol as put-newline-def
-use Rattle.pen.proofs.put_newline.Symbol.{name as #pen·put-newline}
 use Rattle.pen.proofs.put_newline.Met as put-newline-thm
 use Rattle.pen.proofs.newline.Key.{name as #pen·newline}
 use Rattle.pen.proofs.newline as newline
@@ -25,10 +24,10 @@ abbrev PutNewline : {M : Type 1} (𝓤 : URA M) (H : Heap 𝓤) (A : Atoms 𝓤)
 PutNewline 𝓤 H A mem run = tripleOf 𝓤 H A put-newline.signature (put-newline.spec 𝓤 H A mem run)
 
 newline-meets : {M : Type 1} (𝓤 : URA M) (H : Heap 𝓤) (A : Atoms 𝓤) → Given 𝓤 H A → (mem : Memory → SProp 𝓤) (run : Routine → Fun 𝓤) (𝓣 : Tables 𝓤 H)
-    → Triple 𝓤 (𝓣 .C #pen·put-newline) (PutNewline 𝓤 H A mem run) → Meets 𝓤 H A newline.signature (WpFn 𝓤 H (𝓣 .C) (𝓣 .Λ) code.function) (newline.spec 𝓤 H A mem run)
+    → Triple 𝓤 (𝓣 .C put-newline-def.name) (PutNewline 𝓤 H A mem run) → Meets 𝓤 H A newline.signature (WpFn 𝓤 H (𝓣 .C) (𝓣 .Λ) code.function) (newline.spec 𝓤 H A mem run)
 newline-meets 𝓤 H A W mem run 𝓣 known =
-    by-walk 𝓤 H A W 𝓣 code.function newline.ended stayed (writer-spent-goes 1 tt 𝓤 H A W, tt) (newline.clauses 𝓤 H A mem run)
-    (λ κs. (writer-vals 1 tt κs, tt)) (λ κs. (writer-tells 1 tt κs, tt)) (λ κs qs bounds a g are.
+    by-walk 𝓤 H A W 𝓣 code.function newline.ended stayed (writer-spent-goes 1 tt 𝓤 H A W, tt)
+    (newline.clauses 𝓤 H A mem run) (λ κs. (writer-vals 1 tt κs, tt)) (λ κs. (writer-tells 1 tt κs, tt)) (λ κs qs bounds a g are.
     needs 𝓤 (HasRoom (a .0 .buf .now) (a .0 .at) lineEnd) _ (λ within.
     let x = a .0 .buf in
     let at = a .0 .at in
@@ -45,12 +44,13 @@ newline-meets 𝓤 H A W mem run 𝓣 known =
     move ! (11 ∷ []) $ fsplit ! $ opens W (κs .0) (qs .0) x at ! $ move ! (12 ∷ []) $ split ! $ move ! (2 ∷ 0 ∷ 1 ∷ []) $
     put-call W (κs .0) (qs .0) x at lineEnd ! (fmOf 𝓤 H (W .laws) 𝓣) (owed .0) (owed .1) within (PutNewline 𝓤 H A mem run) known
       (λ ν δ. (((ν ∷ [], tt), (fullShare, tt), tt, (under x δ (x .now), (at, tt)), (slice x ∷ [], (vint w64 at ∷ [], tt))), tt))
-      (‵ ftrue) ftrue (λ ν δ. id⊢ 𝓤 _) {Z = List ℕ × (Unit {0} × Unit {0})} (λ z. z .0) (λ z. fsep ftrue ftrue) (λ ν δ w. id⊢ 𝓤 _)
+      (‵ ftrue) ftrue (λ ν δ. id⊢ 𝓤 _)
+      {Z = List ℕ × (Unit {0} × Unit {0})} (λ z. z .0) (λ z. fsep ftrue ftrue) (λ ν δ w. id⊢ 𝓤 _)
       (λ ν δ. and-then ! (var ! 4 refl) (and-then ! (var ! 2 refl) (no-more !))) (λ r zs e fits.
     -- [what the slice owns; the tokens; _4; …; _1; …; room for _0; …]
     land ! (from ! (fld ! refl (stop !))) (store-in ! 9 (sub ! 1 refl (whole !)) (tt, record { fits = fits })) $
     assigns ! (of-opd ! (var ! 9 refl)) (from ! (stop !)) (init ! 11 refl (tt, ((tt, (record { fits = room }, tt)), (record { fits = fits }, tt)))) $
-    returns ! (look ! 11 refl) $ free-at ! 11 refl refl $ free-at ! 9 refl refl $ free-at ! 7 refl refl $ free-at ! 5 refl refl $ free-at ! 3 refl refl $ free0 ! $
+    returns ! (look ! 11 refl) $ free-at ! 11 refl $ free-at ! 9 refl $ free-at ! 7 refl $ free-at ! 5 refl $ free-at ! 3 refl $ free0 ! $
     suffices ! _ (ends-at 𝓤 H A newline.ended stayed (newline.clauses 𝓤 H A mem run) W ((κs, qs, bounds, a, (mach (slice x) at ∷ [], tt)), g)
       (mach (slice x) r) (record { buf = under x (x .name) zs; at = r }) ((tt, tt), tt) (tt, tt)) $
     says ! (λ i. record { buf = under x (x .name) (e .stands i); at = e .place i }) $ move ! (1 ∷ 2 ∷ []) $ join ! $ frame ! $
@@ -63,4 +63,4 @@ newline-spec 𝓤 H 𝓜 𝓖 𝓡 =
     entered 𝓤 H (tripleOf 𝓤 H (𝓖 .A) newline.signature (newline.spec 𝓤 H (𝓖 .A) (𝓜 .mem) (𝓡 .run)))
     (tables 𝓤 H 𝓜 𝓡 code.env .C) (tables 𝓤 H 𝓜 𝓡 code.env .Λ) #pen·newline code.function (code.unfolded 𝓤 H 𝓜 𝓡)
     (newline-meets 𝓤 H (𝓖 .A) (givenOf 𝓤 H 𝓜 𝓖) (𝓜 .mem) (𝓡 .run) (tablesOf 𝓤 H 𝓜 (tables 𝓤 H 𝓜 𝓡 code.env))
-    (cited 𝓤 H (PutNewline 𝓤 H (𝓖 .A) (𝓜 .mem) (𝓡 .run)) 𝓜 𝓡 code.env #pen·put-newline put-newline-def.routine code.calls-pen·put-newline (put-newline-thm.met 𝓤 H 𝓜 𝓖 𝓡)))
+    (cited 𝓤 H (PutNewline 𝓤 H (𝓖 .A) (𝓜 .mem) (𝓡 .run)) 𝓜 𝓡 code.env put-newline-def.name put-newline-def.routine code.calls-pen·put-newline (put-newline-thm.met 𝓤 H 𝓜 𝓖 𝓡)))

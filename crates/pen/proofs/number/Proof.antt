@@ -12,7 +12,6 @@ use Rattle.pen.proofs.Held.{writer-spent, writer-spent-goes, writer-val
 use Rattle.pen.proofs.Lent.{slice, mach, under, lent, opens, put-call, shuts}
 use Rattle.pen.proofs.put_number as put-number
 use Rattle.pen.proofs.put_number.Symbol as put-number-def
-use Rattle.pen.proofs.put_number.Symbol.{name as #pen·put-number}
 use Rattle.pen.proofs.put_number.Met as put-number-thm
 use Rattle.pen.proofs.number.Key.{name as #pen·number}
 use Rattle.pen.proofs.number as number
@@ -26,10 +25,10 @@ abbrev PutNumber : {M : Type 1} (𝓤 : URA M) (H : Heap 𝓤) (A : Atoms 𝓤) 
 PutNumber 𝓤 H A mem run = tripleOf 𝓤 H A put-number.signature (put-number.spec 𝓤 H A mem run)
 
 number-meets : {M : Type 1} (𝓤 : URA M) (H : Heap 𝓤) (A : Atoms 𝓤) → Given 𝓤 H A → (mem : Memory → SProp 𝓤) (run : Routine → Fun 𝓤) (𝓣 : Tables 𝓤 H)
-    → Triple 𝓤 (𝓣 .C #pen·put-number) (PutNumber 𝓤 H A mem run) → Meets 𝓤 H A number.signature (WpFn 𝓤 H (𝓣 .C) (𝓣 .Λ) code.function) (number.spec 𝓤 H A mem run)
+    → Triple 𝓤 (𝓣 .C put-number-def.name) (PutNumber 𝓤 H A mem run) → Meets 𝓤 H A number.signature (WpFn 𝓤 H (𝓣 .C) (𝓣 .Λ) code.function) (number.spec 𝓤 H A mem run)
 number-meets 𝓤 H A W mem run 𝓣 known =
-    by-walk 𝓤 H A W 𝓣 code.function number.ended stayed (writer-spent-goes 1 tt 𝓤 H A W, (goes-dropped 𝓤 H A W 1 (plain (λ _. u64)) yes (λ κs x f. refl), tt)) (number.clauses 𝓤 H A mem run)
-    (λ κs. (writer-vals 1 tt κs, (uint-vals w64, tt))) (λ κs. (writer-tells 1 tt κs, (uint-tells w64, tt))) (λ κs qs bounds a g are.
+    by-walk 𝓤 H A W 𝓣 code.function number.ended stayed (writer-spent-goes 1 tt 𝓤 H A W, (goes-dropped 𝓤 H A W 1 (plain (λ _. u64)) yes (λ κs x f. refl), tt))
+    (number.clauses 𝓤 H A mem run) (λ κs. (writer-vals 1 tt κs, (uint-vals w64, tt))) (λ κs. (writer-tells 1 tt κs, (uint-tells w64, tt))) (λ κs qs bounds a g are.
     needs 𝓤 (HasRoom (a .0 .buf .now) (a .0 .at) (digits (a .1 .0))) _ (λ within.
     let x = a .0 .buf in
     let at = a .0 .at in
@@ -47,12 +46,13 @@ number-meets 𝓤 H A W mem run 𝓣 known =
     move ! (13 ∷ []) $ fsplit ! $ opens W (κs .0) (qs .0) x at ! $ move ! (14 ∷ []) $ split ! $ move ! (2 ∷ 0 ∷ 1 ∷ []) $
     put-call W (κs .0) (qs .0) x at (digits (a .1 .0)) ! (fmOf 𝓤 H (W .laws) 𝓣) (owed .0) (owed .1) within (PutNumber 𝓤 H A mem run) known
       (λ ν δ. (((ν ∷ [], tt), (fullShare, tt), tt, (under x δ (x .now), (at, (n, tt))), (slice x ∷ [], (vint w64 at ∷ [], (vint w64 n ∷ [], tt)))), tt))
-      (‵ ftrue) (fsep (u64 .own n (vint w64 n ∷ [])) ftrue) (λ ν δ. id⊢ 𝓤 _) {Z = List ℕ × (Unit {0} × (Unit {0} × Unit {0}))} (λ z. z .0) (λ z. fsep ftrue (fsep ftrue ftrue)) (λ ν δ w. id⊢ 𝓤 _)
+      (‵ ftrue) (fsep (u64 .own n (vint w64 n ∷ [])) ftrue) (λ ν δ. id⊢ 𝓤 _)
+      {Z = List ℕ × (Unit {0} × (Unit {0} × Unit {0}))} (λ z. z .0) (λ z. fsep ftrue (fsep ftrue ftrue)) (λ ν δ w. id⊢ 𝓤 _)
       (λ ν δ. and-then ! (var ! 4 refl) (and-then ! (var ! 2 refl) (and-then ! (var ! 8 refl) (no-more !)))) (λ r zs e fits.
     -- [what the slice owns; the tokens; _5; …; _1; …; room for _0; …]
     land ! (from ! (fld ! refl (stop !))) (store-in ! 11 (sub ! 1 refl (whole !)) (tt, record { fits = fits })) $
     assigns ! (of-opd ! (var ! 11 refl)) (from ! (stop !)) (init ! 13 refl (tt, ((tt, (record { fits = room }, tt)), (record { fits = fits }, tt)))) $
-    returns ! (look ! 13 refl) $ free-at ! 13 refl refl $ free-at ! 11 refl refl $ free-at ! 9 refl refl $ free-at ! 7 refl refl $ free-at ! 5 refl refl $ free-at ! 3 refl refl $ free0 ! $
+    returns ! (look ! 13 refl) $ free-at ! 13 refl $ free-at ! 11 refl $ free-at ! 9 refl $ free-at ! 7 refl $ free-at ! 5 refl $ free-at ! 3 refl $ free0 ! $
     suffices ! _ (ends-at 𝓤 H A number.ended stayed (number.clauses 𝓤 H A mem run) W ((κs, qs, bounds, a, (mach (slice x) at ∷ [], (vint w64 n ∷ [], tt))), g)
       (mach (slice x) r) (record { buf = under x (x .name) zs; at = r }) ((tt, tt), (tt, tt)) (tt, (tt, tt))) $
     says ! (λ i. record { buf = under x (x .name) (e .stands i); at = e .place i }) $ move ! (1 ∷ 2 ∷ []) $ join ! $ frame ! $
@@ -65,4 +65,4 @@ number-spec 𝓤 H 𝓜 𝓖 𝓡 =
     entered 𝓤 H (tripleOf 𝓤 H (𝓖 .A) number.signature (number.spec 𝓤 H (𝓖 .A) (𝓜 .mem) (𝓡 .run)))
     (tables 𝓤 H 𝓜 𝓡 code.env .C) (tables 𝓤 H 𝓜 𝓡 code.env .Λ) #pen·number code.function (code.unfolded 𝓤 H 𝓜 𝓡)
     (number-meets 𝓤 H (𝓖 .A) (givenOf 𝓤 H 𝓜 𝓖) (𝓜 .mem) (𝓡 .run) (tablesOf 𝓤 H 𝓜 (tables 𝓤 H 𝓜 𝓡 code.env))
-    (cited 𝓤 H (PutNumber 𝓤 H (𝓖 .A) (𝓜 .mem) (𝓡 .run)) 𝓜 𝓡 code.env #pen·put-number put-number-def.routine code.calls-pen·put-number (put-number-thm.met 𝓤 H 𝓜 𝓖 𝓡)))
+    (cited 𝓤 H (PutNumber 𝓤 H (𝓖 .A) (𝓜 .mem) (𝓡 .run)) 𝓜 𝓡 code.env put-number-def.name put-number-def.routine code.calls-pen·put-number (put-number-thm.met 𝓤 H 𝓜 𝓖 𝓡)))

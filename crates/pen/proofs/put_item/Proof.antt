@@ -73,14 +73,15 @@ put-item-meets 𝓤 H A W mem run 𝓣 resumes words numbers fills =
     move ! (21 ∷ []) $ fsplit ! $ move ! (1 ∷ []) $ fsplit ! $ drop ! $ fsplit ! $ move ! (1 ∷ []) $ fsplit ! $ drop ! $ drop ! $
     move ! (22 ∷ []) $ split ! $ move ! (1 ∷ []) $ split ! $ move ! (1 ∷ []) $ drop ! $ move ! (1 ∷ 3 ∷ 0 ∷ 2 ∷ []) $
     -- [κ's token; what buf owns; κ′'s token; what the word owns; the locals, from the last]
-    resume-call W mem run (κs .0) (qs .0) ! fm resumes (a .0) (a .1 .0) fits (and-then ! (var ! 3 refl) (and-then ! (var ! 17 refl) (no-more !))) (λ w₀ g₀. land ! (from ! (stop !)) (init ! 8 refl g₀) $
+    resume-call W mem run (κs .0) (qs .0) ! fm resumes (a .0) (a .1 .0) fits (and-then ! (var ! 3 refl) (and-then ! (var ! 17 refl) (no-more !))) (λ w₀ g₀.
+    land ! (from ! (stop !)) (init ! 8 refl g₀) $
     word-call W mem run (κs .0) (qs .0) (κs .1 .0) (qs .1 .0) ! fm words h₀ s w₀ (rooms .0) (and-then ! (var ! 5 refl) (and-then ! (var ! 13 refl) (no-more !))) (λ w₁ g₁.
     land ! (from ! (stop !)) (init ! 9 refl g₁) $
     number-call W mem run (κs .0) (qs .0) ! fm numbers h₁ n w₁ (are .1 .1 .1 .0 .1) (rooms .1) (and-then ! (var ! 8 refl) (and-then ! (var ! 12 refl) (no-more !))) (λ w₂ g₂.
     land ! (from ! (stop !)) (init ! 11 refl g₂) $ fill-call W mem run (κs .0) (qs .0) ! fm fills h₂ w₂ (and-then ! (var ! 10 refl) (no-more !)) (λ w is.
     land ! (from ! (stop !)) (init ! 22 refl (uint-lawful 𝓤 H A W w64 .typed (h₂ .at) _ is .0)) $ returns ! (look ! 22 refl) $
-    free-at ! 22 refl refl $ free-at ! 20 refl refl $ free-at ! 18 refl refl $ free-at ! 16 refl refl $ free-at ! 14 refl refl $ free-at ! 12 refl refl $
-    free-at ! 10 refl refl $ free-at ! 8 refl refl $ free-at ! 6 refl refl $ free-at ! 4 refl refl $ free0 ! $
+    free-at ! 22 refl $ free-at ! 20 refl $ free-at ! 18 refl $ free-at ! 16 refl $ free-at ! 14 refl $ free-at ! 12 refl $
+    free-at ! 10 refl $ free-at ! 8 refl $ free-at ! 6 refl $ free-at ! 4 refl $ free0 ! $
     suffices ! _ (ends-at 𝓤 H A put-item.ended stayed (put-item.clauses 𝓤 H A mem run) W
       ((κs, qs, bounds, a, (slice (a .0) ∷ [], (vint w64 (a .1 .0) ∷ [], (slice s ∷ [], (vint w64 n ∷ [], tt))))), g)
       w (h₂ .at) (h₂ .buf .now, (tt, (tt, (tt, tt)))) (put-length (item-put h₀ (s .now) n), (tt, (tt, (tt, tt))))) $ says ! (item-put h₀ (s .now) n) $

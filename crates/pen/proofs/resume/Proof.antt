@@ -35,7 +35,7 @@ resume-meets 𝓤 H A W mem run 𝓣 =
       (from ! (stop !)) (init ! 0 refl (tt, (tt, (record { fits = room }, tt)))) $
     assigns ! (agg ! (and-then ! (var ! 0 refl) (and-then ! (var ! 4 refl) (no-more !))))
       (from ! (stop !)) (init ! 8 refl (tt, ((tt, (record { fits = room }, tt)), (record { fits = fits }, tt)))) $
-    returns ! (look ! 8 refl) $ free-at ! 8 refl refl $ free-at ! 6 refl refl $ free-at ! 4 refl refl $ free-at ! 2 refl refl $ free-at ! 0 refl refl $ free0 ! $
+    returns ! (look ! 8 refl) $ free-at ! 8 refl $ free-at ! 6 refl $ free-at ! 4 refl $ free-at ! 2 refl $ free-at ! 0 refl $ free0 ! $
     suffices ! _ (ends-at 𝓤 H A resume.ended stayed (resume.clauses 𝓤 H A mem run) W ((κs, qs, bounds, a, (v ∷ [], (vint w64 n ∷ [], tt))), g)
       (vstruct (vcons v (vcons (vint w64 n) vnil))) (record { buf = a .0; at = n }) (tt, (tt, tt)) (tt, (tt, tt))) $ says ! (refl, refl) $
     frame ! $ fsplit ! $ move ! (1 ∷ []) $ drop ! $ nothing ! $ nothing ! $ fjoin ! $ nothing ! $ fjoin ! $ frame ! $ by ! (shuts W (κs .0) (qs .0) (a .0) v n fits))))))))
