@@ -6,12 +6,12 @@
 --     word-call        [κ; what the writer h owns; κ′; what the word s owns; …]     to [κ; what `wrote h (now s)` owns; κ′; …]
 --     fill-call        [κ; what the writer h owns; …]        to [κ; what says that the buffer's last list is h's; what the result, h's place, owns; …]
 -- All that they know of the functions is that each meets its contract. Assumes `Given`.
-use Rattle.pen.proofs.Logic.{_≡_, refl, sym, ap, subst, ℕ, _<_, _^_, [], _∷_, List, Holds, length, URA, Place, Body, Operand, Name, named, erased, w64, seq}
-use Rattle.pen.proofs.Logic.{call, Val, WT, hasTy, vint, SProp, ent, sep, id⊢, Lft, Share, Fml, ftrue, fsep, flft, Memory, Routine, Heap, Env, Calls, Loops}
-use Rattle.pen.proofs.Logic.{Atoms, sem, Fun, fact, Given, Item, Post, Seq, runs, lands, mean, ‵, raw, some, later, ⋆, _⊛_, _$_, _∵_, !, qed, move, drop}
-use Rattle.pen.proofs.Logic.{use1, use2, split, join, pick, rewrite, fsplit, fjoin, suffices, frame, await, done, Opds, FmC, Is, shows, uint-makes, u8, u64}
-use Rattle.pen.proofs.Logic.{usize, RefT, NamedLft, RattleType, MutSlice, ShrSlice, finally, only, owned, peeks, heard, nothing, tripleOf, Contract, Triple}
-use Rattle.pen.proofs.Logic.{calls-at, ensured, lasts, says}
+use Rattle.pen.proofs.Logic.{_≡_, refl, sym, ap, subst, ℕ, _<_, _^_, [], _∷_, List, Holds, URA, Place, Body, Operand, Name, named, erased, w64, seq, call}
+use Rattle.pen.proofs.Logic.{Val, WT, hasTy, vint, SProp, ent, sep, id⊢, Lft, Share, Fml, ftrue, fsep, flft, Memory, Routine, Heap, Env, Calls, Loops, Atoms}
+use Rattle.pen.proofs.Logic.{Fun, fact, Given, Item, Post, Seq, runs, lands, mean, ‵, raw, some, later, ⋆, _⊛_, _$_, _∵_, !, qed, move, drop, use1, use2}
+use Rattle.pen.proofs.Logic.{split, join, pick, rewrite, fsplit, fjoin, suffices, frame, await, done, Opds, FmC, Is, shows, uint-makes, u8, u64, usize, RefT}
+use Rattle.pen.proofs.Logic.{NamedLft, RattleType, MutSlice, ShrSlice, finally, only, owned, peeks, heard, nothing, tripleOf, Contract, Triple, calls-at}
+use Rattle.pen.proofs.Logic.{ensured, lasts, says}
 use denote.Struct.Laws as LL
 use Rattle.pen.specs.declared.Writer.{Writer}
 use Rattle.pen.specs.Digits.{digits}

@@ -3,10 +3,9 @@
 --     writer-spent, writer-spent-goes     the result names the writer's lifetime, and nothing is had of the writer; the law for it
 -- And what it has at entry of one: its machine value, and what its fields owe.
 -- The laws take `Given`. The rest assumes nothing.
-use Rattle.pen.proofs.Logic.{refl, List, [], _∷_, URA, Sym, named, ℕ, Within, Heap, Atoms, ftrue, Given, ‵, _$_, _∵_, !, qed, updating, at-once, fjoin}
-use Rattle.pen.proofs.Logic.{done, nothing, u8, usize, yes, no, Slot, plain, mutSlice, namedLft, structAt, Stay, Fields, stay-none, stay-slice}
-use Rattle.pen.proofs.Logic.{stay-dropped, stay-struct-at, stay-declared, Goes, goes-none, goes-slice, goes-struct-at, goes-declared}
-use Rattle.pen.proofs.Logic.{length, _<_, _^_, Val, Is, Room}
+use Rattle.pen.proofs.Logic.{refl, List, [], _∷_, URA, Sym, named, ℕ, Within, Heap, Atoms, ftrue, Given, ‵, _$_, _∵_, !, qed, updating, at-once, fjoin, done}
+use Rattle.pen.proofs.Logic.{nothing, u8, usize, yes, no, Slot, plain, mutSlice, namedLft, structAt, Stay, Fields, stay-none, stay-slice, stay-dropped}
+use Rattle.pen.proofs.Logic.{stay-struct-at, stay-declared, Goes, goes-none, goes-slice, goes-struct-at, goes-declared, length, _<_, _^_, Val, Is, Room}
 use contract.Lifetimes.{Lfts}
 use denote.Laws.{Tells, Typed}
 use denote.Struct.Laws as LL

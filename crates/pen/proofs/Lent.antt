@@ -4,13 +4,12 @@
 --     shuts            what the borrow owns, with a place, is what a writer owns
 -- What is known of the put is that it meets its contract. Assumes `Given`.
 use Rattle.pen.proofs.Logic.{_≡_, refl, ap, ℕ, _<_, _^_, [], _∷_, List, length, URA, fullShare, Place, Body, Operand, Name, named, w64, seq, call, Val, vint}
-use Rattle.pen.proofs.Logic.{vstruct, vnil, vcons, SProp, ent, sep, Lft, Share, GName, Fml, ftrue, fsep, feq, flft, Heap, Env, Calls, Loops, Atoms, sem, fact}
-use Rattle.pen.proofs.Logic.{Given, Item, Post, Seq, runs, lands, mean, ⋆, ‵, raw, given, _⊛_, some, later, _$_, _∵_, !, qed, move, drop, use1, use2, use3}
-use Rattle.pen.proofs.Logic.{split, join, pick, learn, fsplit, fjoin, feqL, regoal, suffices, await, done, Opds, lft-new, lft-end, FmC, Is, shows, uint-makes}
-use Rattle.pen.proofs.Logic.{u8, usize, RefT, NamedLft, sliceVal, MutSlice, Room, finally, all-own, own-open, only, owned, peeks, heard, nothing, makes}
-use Rattle.pen.proofs.Logic.{Contract, Triple, calls-at, says}
+use Rattle.pen.proofs.Logic.{vstruct, vnil, vcons, ent, sep, Lft, Share, GName, Fml, ftrue, fsep, feq, flft, Heap, Env, Calls, Loops, Atoms, sem, fact, Given}
+use Rattle.pen.proofs.Logic.{Item, Post, Seq, runs, lands, mean, ⋆, ‵, raw, given, _⊛_, some, later, _$_, _∵_, !, qed, move, drop, use1, use2, use3, split}
+use Rattle.pen.proofs.Logic.{join, pick, learn, fsplit, fjoin, feqL, regoal, suffices, await, done, Opds, lft-new, lft-end, FmC, Is, shows, uint-makes, u8}
+use Rattle.pen.proofs.Logic.{usize, RefT, NamedLft, sliceVal, MutSlice, Room, finally, all-own, own-open, only, owned, peeks, heard, nothing, makes, Contract}
+use Rattle.pen.proofs.Logic.{Triple, calls-at, says}
 use types.Kit.{Step, step, Goal}
-use Rattle.pen.specs.declared.Writer.{Writer}
 use Rattle.pen.specs.Lines.{HasRoom, Put}
 use Rattle.pen.proofs.Writer as T
 use Rattle.pen.proofs.Writer.Laws as T′

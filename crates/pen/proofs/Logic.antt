@@ -16,7 +16,7 @@ pub use ghost.Atoms.{Atoms, sem}
 pub use contract.Monad.{Fun, fact}
 pub use contract.Running.{givenOf, tables}
 unfoldable pub use contract.Running.{tablesOf}
-pub use types.Kit.{Given, ‵, given, ⋆, _⊛_, _$_, _∵_, !, qed, by, move, keep, use1, split, join, learn, fsplit, fjoin, suffices, frame, done, drop, raw, Item}
+pub use types.Kit.{Given, ‵, given, ⋆, _⊛_, _$_, _∵_, !, qed, by, move, use1, split, join, learn, fsplit, fjoin, suffices, frame, done, drop, raw, Item}
 pub use types.Kit.{Post, Seq, runs, lands, mean, some, later, use2, pick, rewrite, await, use3, feqL, regoal, updating, now as at-once}
 pub use types.Run.{look, init, forget, stop, hop, fld, from, load, addr, of-opd, and-then, no-more, assigns, land, returns, enter, alloc1, alloc0, params1}
 pub use types.Run.{pass1, pass0, free1, free0, Opds}

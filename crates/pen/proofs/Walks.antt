@@ -16,8 +16,8 @@ use denote.Signature.{typesAt}
 use denote.Triple.Entry.{Args}
 use denote.Triple.Clauses.{Clauses, Ended, closing}
 use denote.Triple.Walked.{AllGo}
-use Rattle.pen.proofs.Logic.{_≡_, refl, subst, ℕ, [], _∷_, List, URA, fullShare, Val, ent, sep, via, Share, Heap, WpFn, Tables, Env, Atoms, Given, Item, ‵}
-use Rattle.pen.proofs.Logic.{⋆, _$_, by, Seq, look, forget, free1, load, from, stop, WpFn-mono, RattleType, onEntry, Meets, Stays, walkOf, walked, walk-meets}
+use Rattle.pen.proofs.Logic.{_≡_, refl, subst, ℕ, [], _∷_, List, URA, fullShare, Val, ent, sep, via, Share, Heap, WpFn, Tables, Env, Atoms, Given, Item, ‵, ⋆}
+use Rattle.pen.proofs.Logic.{_$_, by, Seq, look, forget, free1, load, from, stop, WpFn-mono, RattleType, onEntry, Meets, Stays, walkOf, walked, walk-meets}
 
 module _ {M : Type 1} (𝓤 : URA M) (H : Heap 𝓤) (A : Atoms 𝓤) (W : Given 𝓤 H A) (𝓣 : Tables 𝓤 H) (f : Fn) (T : Ended)
     (hs : Stays (T .signature .params) (T .kept)) (gs : AllGo 𝓤 H A W (T .signature .lifetimes) (T .signature .params) (T .kept) hs) (c : Clauses 𝓤 T) where

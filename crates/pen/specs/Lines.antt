@@ -1,7 +1,7 @@
 -- Text put into a buffer, and the texts that lines are made of.
 use mathlib.Core.Path.{_≡_}
 use Prim.Native.Nat.{ℕ, zero, suc, _+_, _≤_}
-use mathlib.Core.List.{List, [], _∷_, _++_}
+use mathlib.Core.List.{List, [], _++_}
 use lib.ListN.{length}
 use lib.Seq.{sets}
 use Rattle.little.specs.Text.{bytes}

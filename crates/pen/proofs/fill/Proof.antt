@@ -1,8 +1,8 @@
 -- A walk of the code by hand: the place is read from the writer. The borrow inside is not opened, so it leaves at the list that it came with.
-use Rattle.pen.proofs.Logic.{refl, [], _∷_, URA, w64, vint, SProp, emp, via, fst∗, ftrue, flft, Memory, Routine, Heap, WpFn, Tables, Atoms, Fun, givenOf, tables}
-use Rattle.pen.proofs.Logic.{tablesOf, Given, ‵, _⊛_, _$_, _∵_, !, qed, suffices, frame, done, look, init, stop, fld, from, load, of-opd, assigns, returns, enter}
-use Rattle.pen.proofs.Logic.{alloc1, alloc0, params1, pass1, pass0, free0, whole, sub, look-in, owns, Is, uint-makes, usize, owned, Meets, tripleOf, entered, says}
-use Rattle.pen.proofs.Logic.{Stays, ends-at, namedLft}
+use Rattle.pen.proofs.Logic.{refl, [], _∷_, URA, w64, vint, SProp, emp, via, fst∗, ftrue, flft, Memory, Routine, Heap, WpFn, Tables, Atoms, Fun, givenOf}
+use Rattle.pen.proofs.Logic.{tables, tablesOf, Given, ‵, _⊛_, _$_, _∵_, !, qed, suffices, frame, done, look, init, stop, fld, from, load, of-opd, assigns}
+use Rattle.pen.proofs.Logic.{returns, enter, alloc1, alloc0, params1, pass1, pass0, free0, whole, sub, look-in, owns, Is, uint-makes, usize, owned, Meets}
+use Rattle.pen.proofs.Logic.{tripleOf, entered, says, Stays, ends-at, namedLft}
 use Rattle.pen.proofs.Writer as T
 use Rattle.pen.proofs.Walks.{by-walk, free-at}
 use Rattle.pen.proofs.Held.{writer-stay, writer-goes, writer-vals, writer-tells, writer-owed, writer-typed}
