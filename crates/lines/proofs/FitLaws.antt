@@ -32,13 +32,15 @@ series-short text k (suc n) h = simp length-append (omega (arith, series-short t
 
 ops-short : {n e : ℕ} → CountsFit n e → length (opsLine n e) ≤ 45
 unfolding opsLine
-ops-short {n} {e} c = simp length-append (omega (arith, item-short opsWord 2 n (omega arith), item-short edgesWord 2 e (omega arith), pair-short transitionsWord placesWord 2 2 (3 * n + 2) (3 * n + 2 * e) (omega arith) (omega arith)))
+ops-short {n} {e} c = simp length-append (omega (arith, item-short opsWord 2 n (omega arith), item-short edgesWord 2 e (omega arith),
+    pair-short transitionsWord placesWord 2 2 (3 * n + 2) (3 * n + 2 * e) (omega arith) (omega arith)))
 
 -- what a graph's numbers make of the other lines
 module _ {n e a b x y z : ℕ} {ring : List ℕ} {waits : ℕ → ℕ} (g : Printable n e a b x y z ring waits) where
   bounds-short : length (boundLines a b x y z) ≤ 71
   unfolding boundLines
-  bounds-short = simp length-append (omega (arith, pair-short tboWord slashWord 9 9 a b (g .numerator) (g .denominator), line-short tbioWord 9 x (g .tbio), line-short ttWord 9 y (g .total), line-short tceWord 9 z (g .tce)))
+  bounds-short = simp length-append (omega (arith, pair-short tboWord slashWord 9 9 a b (g .numerator) (g .denominator),
+      line-short tbioWord 9 x (g .tbio), line-short ttWord 9 y (g .total), line-short tceWord 9 z (g .tce)))
 
   circuit-short : length (circuitLine ring) ≤ 740
   unfolding circuitLine ringPlaces lineEnd
@@ -54,7 +56,8 @@ module _ {n e a b x y z : ℕ} {ring : List ℕ} {waits : ℕ → ℕ} (g : Prin
   report-fits = simp length-append (omega (arith, ops-short (g .counts), bounds-short, circuit-short, waits-short))
 
 -- so what may be written fits, where 16 and 32 bits limit the other numbers
-pub writable-fits : {buf : List ℕ} {n e a b : ℕ} {ring waits : List ℕ} → Writable buf n e a b ring waits → (x y z : ℕ) → x < 2 ^ 32 → y < 2 ^ 32 → z < 2 ^ 32 → ((i : ℕ) → at ring i < 2 ^ 16) → ((t : ℕ) → at waits t < 2 ^ 32) → HasRoom buf 0 (reportText n e a b x y z ring (at waits))
+pub writable-fits : {buf : List ℕ} {n e a b : ℕ} {ring waits : List ℕ} → Writable buf n e a b ring waits → (x y z : ℕ) → x < 2 ^ 32 → y < 2 ^ 32 → z < 2 ^ 32
+    → ((i : ℕ) → at ring i < 2 ^ 16) → ((t : ℕ) → at waits t < 2 ^ 32) → HasRoom buf 0 (reportText n e a b x y z ring (at waits))
 writable-fits {n = n} {e = e} {a = a} {b = b} {ring = ring} {waits = waits} w x y z hx hy hz hr hw =
     let g : Printable n e a b x y z ring (at waits) = record {
       counts = w .counts;

@@ -16,9 +16,12 @@ fits c = let s : tie.Start = c .before .before .before in
     writable-fits (s .pre) (s .args .tbio) (s .args .total) (s .args .tce) (omega arith) (omega arith) (omega arith)
     (λ i. omega (arith, c .before .shared-slice-known .given i)) (λ t. omega (arith, c .shared-slice-known2 .given t))
 
--- the start, seen from behind the head
+-- each place seen from behind the next text: the start, behind the head
 abbrev start : tie.After-head-lines → tie.After-shared-slice-known2
 start c = c .before .before
+
+abbrev head : tie.After-wait-lines → tie.After-head-lines
+head c = c .before .before .before .before
 
 head-lines-requires : tie.Need-head-lines-requires
 unfolding reportText
@@ -34,7 +37,7 @@ same-length c = search needs
 
 returns : tie.Need-returns
 unfolding reportText
-returns c = let w : tie.After-wait-lines = c .before .before in then-put (w .before .before .before .before .head-lines .ensures) (w .wait-lines .ensures)
+returns c = let w : tie.After-wait-lines = c .before .before in then-put (head w .head-lines .ensures) (w .wait-lines .ensures)
 
 pub write-report-spec : {M : Type 1} → statement M
 write-report-spec = tie.close (tie.spec head-lines-requires wait-lines-requires same-length returns)

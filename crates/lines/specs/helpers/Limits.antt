@@ -21,7 +21,8 @@ pub record Printable (n e a b x y z : ℕ) (ring : List ℕ) (waits : ℕ → �
   pub places : (i : ℕ) → i < length ring → at ring i < 10 ^ 5
   pub waited : (t : ℕ) → t < 3 * n + 2 → waits t < 10 ^ 10
 
--- What remains to be asked where 16 and 32 bits limit the other numbers: counts, TBO, no more places than transitions, a wait for each transition, and the buffer's 4,096 bytes.
+-- What remains to be asked where 16 and 32 bits limit the other numbers: counts, TBO, no more places than transitions, a wait for each
+-- transition, and the buffer's 4,096 bytes.
 pub record Writable (buf : List ℕ) (n e a b : ℕ) (ring waits : List ℕ) : Type 0 where
   pub room : 4096 ≤ length buf
   pub counts : CountsFit n e

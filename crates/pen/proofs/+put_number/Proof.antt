@@ -59,19 +59,25 @@ put-number-cast-buf-2 : (t : ℕ) → put-number-lts.Need-cast-buf-2 (put-number
 put-number-cast-buf-2 t c = search needs
 
 put-number-slice-write-buf-2 : (t : ℕ) → put-number-lts.Need-slice-write-buf-2 (put-number-below t, put-number.Post) (put-number-at t) put-number.Post
-put-number-slice-write-buf-2 t c = let p = c .before .before in let s = p .before .before .before .before in
-    omega (arith, last-room (s .args .n) (omega arith) (s .pre .1) (p .put-number .ensures) .room)
+put-number-slice-write-buf-2 t c =
+    let tenth = c .before .before in
+    let start = tenth .before .before .before .before in
+    omega (arith, last-room (start .args .n) (omega arith) (start .pre .1) (tenth .put-number .ensures) .room)
 
 put-number-add-result-2 : (t : ℕ) → put-number-lts.Need-add-result-2 (put-number-below t, put-number.Post) (put-number-at t) put-number.Post
-put-number-add-result-2 t c = let p = c .before .before in let s = p .before .before .before .before in
-    omega (arith, last-room (s .args .n) (omega arith) (s .pre .1) (p .put-number .ensures) .room)
+put-number-add-result-2 t c =
+    let tenth = c .before .before in
+    let start = tenth .before .before .before .before in
+    omega (arith, last-room (start .args .n) (omega arith) (start .pre .1) (tenth .put-number .ensures) .room)
 
 put-number-same-length-2 : (t : ℕ) → put-number-lts.Need-same-length-2 (put-number-below t, put-number.Post) (put-number-at t) put-number.Post
 put-number-same-length-2 t c = search needs
 
 put-number-returns-2 : (t : ℕ) → put-number-lts.Need-returns-2 (put-number-below t, put-number.Post) (put-number-at t) put-number.Post
-put-number-returns-2 t c = let p = c .before .before in let n = p .before .before .before .before .args .n in
-    rw (digits-more n (omega arith)) (put-byte (p .put-number .ensures) (48 + n % 10) refl)
+put-number-returns-2 t c =
+    let tenth = c .before .before in
+    let n = tenth .before .before .before .before .args .n in
+    rw (digits-more n (omega arith)) (put-byte (tenth .put-number .ensures) (48 + n % 10) refl)
 
 pub +put-number-spec : {M : Type 1} → statement M
 +put-number-spec = close μ-put-number λ t. put-number-lts.spec (put-number-below t, put-number.Post) (put-number-at t) put-number.Post

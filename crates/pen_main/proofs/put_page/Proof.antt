@@ -10,7 +10,9 @@ abbrev start : tie.After-item-line → tie.Start
 start c = c .before .before .before .before .before
 
 abbrev tce : tie.After-pair-line → tie.After-item-line
-tce c = let s : tie.After-slice-known2 = c .before .before .before .before in s .before .before
+tce c =
+    let s : tie.After-slice-known2 = c .before .before .before .before in
+    s .before .before
 
 abbrev tbo : tie.After-put-word → tie.After-pair-line
 tbo c = c .before .before .before .before .before

@@ -38,7 +38,10 @@ loop-less : tie.Need-loop-less Inv-loop μ-loop
 loop-less c = search needs
 
 loop-again : tie.Need-loop-again Inv-loop μ-loop
-loop-again c = let p = c .before .before in putting-on (p .before .before .before .before .before .loop .inv) (omega arith) (p .put-item .ensures)
+loop-again c =
+    let item = c .before .before in
+    let turn = item .before .before .before .before .before .loop in
+    putting-on (turn .inv) (omega arith) (item .put-item .ensures)
 
 same-length : tie.Need-same-length Inv-loop μ-loop
 same-length c = put-length (c .before .loop .inv .put)

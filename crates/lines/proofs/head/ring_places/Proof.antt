@@ -34,7 +34,10 @@ loop-less : tie.Need-loop-less Inv-loop μ-loop
 loop-less c = search needs
 
 loop-again : tie.Need-loop-again Inv-loop μ-loop
-loop-again c = let p = c .before .before in putting-on (p .before .before .before .before .loop .inv) (omega arith) (p .ring-place .ensures)
+loop-again c =
+    let place = c .before .before in
+    let turn = place .before .before .before .before .loop in
+    putting-on (turn .inv) (omega arith) (place .ring-place .ensures)
 
 same-length : tie.Need-same-length Inv-loop μ-loop
 same-length c = put-length (c .before .loop .inv .put)
