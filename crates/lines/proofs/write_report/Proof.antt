@@ -32,12 +32,9 @@ unfolding reportText
 wait-lines-requires c κs = let h : tie.After-head-lines = c .before .before .before in
     (start h .before .before .before .pre .each, then-room (h .head-lines .ensures) (fits (start h)))
 
-same-length : tie.Need-same-length
-same-length c = search needs
-
 returns : tie.Need-returns
 unfolding reportText
 returns c = let w : tie.After-wait-lines = c .before .before in then-put (head w .head-lines .ensures) (w .wait-lines .ensures)
 
 pub write-report-spec : {M : Type 1} → statement M
-write-report-spec = tie.close (tie.spec head-lines-requires wait-lines-requires same-length returns)
+write-report-spec = tie.close (tie.spec head-lines-requires wait-lines-requires (λ c. search needs) returns)

@@ -20,12 +20,9 @@ end-line-requires : tie.Need-end-line-requires
 unfolding itemLine
 end-line-requires c κs = let i : tie.After-put-item = c .before .before .before in then-room (i .put-item .ensures) (start i .pre)
 
-same-length : tie.Need-same-length
-same-length c = search needs
-
 returns : tie.Need-returns
 unfolding itemLine
 returns c = let e : tie.After-end-line = c .before .before in then-put (item e .put-item .ensures) (e .end-line .ensures)
 
 pub item-line-spec : {M : Type 1} → statement M
-item-line-spec = tie.close (tie.spec put-item-requires end-line-requires same-length returns)
+item-line-spec = tie.close (tie.spec put-item-requires end-line-requires (λ c. search needs) returns)

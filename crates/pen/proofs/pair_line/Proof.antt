@@ -20,12 +20,9 @@ item-line-requires : tie.Need-item-line-requires
 unfolding pairLine
 item-line-requires c κs = let i : tie.After-put-item = c .before .before .before in then-room (i .put-item .ensures) (start i .pre)
 
-same-length : tie.Need-same-length
-same-length c = search needs
-
 returns : tie.Need-returns
 unfolding pairLine
 returns c = let l : tie.After-item-line = c .before .before in then-put (item l .put-item .ensures) (l .item-line .ensures)
 
 pub pair-line-spec : {M : Type 1} → statement M
-pair-line-spec = tie.close (tie.spec put-item-requires item-line-requires same-length returns)
+pair-line-spec = tie.close (tie.spec put-item-requires item-line-requires (λ c. search needs) returns)

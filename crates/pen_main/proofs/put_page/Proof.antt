@@ -23,25 +23,13 @@ word c = c .before .before .before .before
 abbrev row : tie.After-end-line → tie.After-put-row
 row c = c .before .before .before .before
 
-slice-aggregate-item-line : tie.Need-slice-aggregate-item-line
-slice-aggregate-item-line c = search needs
-
 item-line-requires : tie.Need-item-line-requires
 unfolding page
 item-line-requires c κs = first-room _ (c .before .before .before .before .pre)
 
-slice-aggregate-pair-line : tie.Need-slice-aggregate-pair-line
-slice-aggregate-pair-line c = search needs
-
-slice-aggregate-pair-line-2 : tie.Need-slice-aggregate-pair-line-2
-slice-aggregate-pair-line-2 c = search needs
-
 pair-line-requires : tie.Need-pair-line-requires
 unfolding page
 pair-line-requires c κs = let i : tie.After-item-line = c .before .before .before .before .before in first-room _ (then-room (i .item-line .ensures) (start i .pre))
-
-slice-aggregate-put-word : tie.Need-slice-aggregate-put-word
-slice-aggregate-put-word c = search needs
 
 put-word-requires : tie.Need-put-word-requires
 unfolding page
@@ -58,9 +46,6 @@ unfolding page
 end-line-requires c κs = let r : tie.After-put-row = c .before .before .before in let w = word r in let p = tbo w in let i = tce p in
     then-room (r .put-row .ensures) (then-room (w .put-word .ensures) (then-room (p .pair-line .ensures) (then-room (i .item-line .ensures) (start i .pre))))
 
-same-length : tie.Need-same-length
-same-length c = search needs
-
 returns : tie.Need-returns
 unfolding page
 returns c = let e : tie.After-end-line = c .before .before in let r = row e in let w = word r in let p = tbo w in
@@ -69,5 +54,5 @@ returns c = let e : tie.After-end-line = c .before .before in let r = row e in l
 
 pub put-page-spec : {M : Type 1} → statement M
 put-page-spec = tie.close (tie.spec
-    slice-aggregate-item-line item-line-requires slice-aggregate-pair-line slice-aggregate-pair-line-2 pair-line-requires slice-aggregate-put-word
-    put-word-requires put-row-requires end-line-requires same-length returns)
+    (λ c. search needs) item-line-requires (λ c. search needs) (λ c. search needs) pair-line-requires (λ c. search needs) put-word-requires
+    put-row-requires end-line-requires (λ c. search needs) returns)

@@ -18,24 +18,9 @@ loop-holds : tie.Need-loop-holds Inv-loop μ-loop
 unfolding numberRow
 loop-holds c = putting-start (c .before .before .pre)
 
-slice-aggregate-put-item : tie.Need-slice-aggregate-put-item Inv-loop μ-loop
-slice-aggregate-put-item c = search needs
-
-mul-put-item : tie.Need-mul-put-item Inv-loop μ-loop
-mul-put-item c = search needs
-
-shared-slice-read-put-item : tie.Need-shared-slice-read-put-item Inv-loop μ-loop
-shared-slice-read-put-item c = search needs
-
 put-item-requires : tie.Need-put-item-requires Inv-loop μ-loop
 unfolding numberRow
 put-item-requires c κs = putting-room (c .before .before .before .before .loop .inv) (omega arith)
-
-add-i : tie.Need-add-i Inv-loop μ-loop
-add-i c = search needs
-
-loop-less : tie.Need-loop-less Inv-loop μ-loop
-loop-less c = search needs
 
 loop-again : tie.Need-loop-again Inv-loop μ-loop
 loop-again c =
@@ -51,5 +36,6 @@ unfolding numberRow
 returns c = putting-end (c .before .loop .inv) (omega arith)
 
 pub put-row-spec : {M : Type 1} → statement M
-put-row-spec = tie.close (tie.spec Inv-loop μ-loop
-    loop-holds slice-aggregate-put-item mul-put-item shared-slice-read-put-item put-item-requires add-i loop-less loop-again same-length returns)
+put-row-spec = tie.close (tie.spec
+    Inv-loop μ-loop loop-holds (λ c. search needs) (λ c. search needs) (λ c. search needs) put-item-requires (λ c. search needs) (λ c. search needs)
+    loop-again same-length returns)

@@ -18,41 +18,23 @@ tbio c = c .before .before .before .before .before
 abbrev total : tie.After-item-line3 → tie.After-item-line2
 total c = c .before .before .before .before .before
 
-slice-aggregate-pair-line : tie.Need-slice-aggregate-pair-line
-slice-aggregate-pair-line c = search needs
-
-slice-aggregate-pair-line-2 : tie.Need-slice-aggregate-pair-line-2
-slice-aggregate-pair-line-2 c = search needs
-
 pair-line-requires : tie.Need-pair-line-requires
 unfolding boundLines
 pair-line-requires c κs = first-room _ (c .before .before .before .before .pre)
 
-slice-aggregate-item-line : tie.Need-slice-aggregate-item-line
-slice-aggregate-item-line c = search needs
-
 item-line-requires : tie.Need-item-line-requires
 unfolding boundLines
 item-line-requires c κs = let b : tie.After-pair-line = c .before .before .before .before in first-room _ (then-room (b .pair-line .ensures) (start b .pre))
-
-slice-aggregate-item-line-2 : tie.Need-slice-aggregate-item-line-2
-slice-aggregate-item-line-2 c = search needs
 
 item-line-requires-2 : tie.Need-item-line-requires-2
 unfolding boundLines
 item-line-requires-2 c κs = let i : tie.After-item-line = c .before .before .before .before in let b = tbo i in
     first-room _ (then-room (i .item-line .ensures) (then-room (b .pair-line .ensures) (start b .pre)))
 
-slice-aggregate-item-line-3 : tie.Need-slice-aggregate-item-line-3
-slice-aggregate-item-line-3 c = search needs
-
 item-line-requires-3 : tie.Need-item-line-requires-3
 unfolding boundLines
 item-line-requires-3 c κs = let t : tie.After-item-line2 = c .before .before .before .before in let i = tbio t in let b = tbo i in
     then-room (t .item-line2 .ensures) (then-room (i .item-line .ensures) (then-room (b .pair-line .ensures) (start b .pre)))
-
-same-length : tie.Need-same-length
-same-length c = search needs
 
 returns : tie.Need-returns
 unfolding boundLines
@@ -61,5 +43,5 @@ returns c = let e : tie.After-item-line3 = c .before .before in let t = total e 
 
 pub bound-lines-spec : {M : Type 1} → statement M
 bound-lines-spec = tie.close (tie.spec
-    slice-aggregate-pair-line slice-aggregate-pair-line-2 pair-line-requires slice-aggregate-item-line item-line-requires slice-aggregate-item-line-2
-    item-line-requires-2 slice-aggregate-item-line-3 item-line-requires-3 same-length returns)
+    (λ c. search needs) (λ c. search needs) pair-line-requires (λ c. search needs) item-line-requires (λ c. search needs) item-line-requires-2
+    (λ c. search needs) item-line-requires-3 (λ c. search needs) returns)

@@ -15,9 +15,6 @@ word c = c .before .before .before .before
 abbrev places : tie.After-end-line → tie.After-ring-places
 places c = c .before .before .before .before
 
-slice-aggregate-put-word : tie.Need-slice-aggregate-put-word
-slice-aggregate-put-word c = search needs
-
 put-word-requires : tie.Need-put-word-requires
 unfolding circuitLine
 put-word-requires c κs = first-room _ (c .before .before .before .before .pre)
@@ -31,13 +28,10 @@ unfolding circuitLine
 end-line-requires c κs = let p : tie.After-ring-places = c .before .before .before in
     then-room (p .ring-places .ensures) (then-room (word p .put-word .ensures) (start (word p) .pre))
 
-same-length : tie.Need-same-length
-same-length c = search needs
-
 returns : tie.Need-returns
 unfolding circuitLine
 returns c = let e : tie.After-end-line = c .before .before in let p = places e in
     then-put (word p .put-word .ensures) (then-put (p .ring-places .ensures) (e .end-line .ensures))
 
 pub circuit-line-spec : {M : Type 1} → statement M
-circuit-line-spec = tie.close (tie.spec slice-aggregate-put-word put-word-requires ring-places-requires end-line-requires same-length returns)
+circuit-line-spec = tie.close (tie.spec (λ c. search needs) put-word-requires ring-places-requires end-line-requires (λ c. search needs) returns)

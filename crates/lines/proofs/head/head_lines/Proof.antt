@@ -28,13 +28,10 @@ unfolding headText
 circuit-line-requires c κs = let b : tie.After-bound-lines = c .before .before .before in
     then-room (b .bound-lines .ensures) (then-room (counts b .ops-line .ensures) (start (counts b) .pre .1))
 
-same-length : tie.Need-same-length
-same-length c = search needs
-
 returns : tie.Need-returns
 unfolding headText
 returns c = let l : tie.After-circuit-line = c .before .before in let b = bounds l in
     then-put (counts b .ops-line .ensures) (then-put (b .bound-lines .ensures) (l .circuit-line .ensures))
 
 pub head-lines-spec : {M : Type 1} → statement M
-head-lines-spec = tie.close (tie.spec ops-line-requires bound-lines-requires circuit-line-requires same-length returns)
+head-lines-spec = tie.close (tie.spec ops-line-requires bound-lines-requires circuit-line-requires (λ c. search needs) returns)

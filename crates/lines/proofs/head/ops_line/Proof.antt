@@ -15,48 +15,18 @@ operations c = c .before .before .before .before .before
 abbrev edges : tie.After-pair-line-arg3 → tie.After-put-item2
 edges c = c .before .before .before .before .before
 
-slice-aggregate-put-item : tie.Need-slice-aggregate-put-item
-slice-aggregate-put-item c = search needs
-
 put-item-requires : tie.Need-put-item-requires
 unfolding opsLine
 put-item-requires c κs = first-room _ (c .before .before .before .pre .1)
-
-slice-aggregate-put-item-2 : tie.Need-slice-aggregate-put-item-2
-slice-aggregate-put-item-2 c = search needs
 
 put-item-requires-2 : tie.Need-put-item-requires-2
 unfolding opsLine
 put-item-requires-2 c κs = let n : tie.After-put-item = c .before .before .before .before in first-room _ (then-room (n .put-item .ensures) (start n .pre .1))
 
-slice-aggregate-pair-line : tie.Need-slice-aggregate-pair-line
-slice-aggregate-pair-line c = search needs
-
-mul-pair-line : tie.Need-mul-pair-line
-mul-pair-line c = search needs
-
-add-pair-line : tie.Need-add-pair-line
-add-pair-line c = search needs
-
-slice-aggregate-pair-line-2 : tie.Need-slice-aggregate-pair-line-2
-slice-aggregate-pair-line-2 c = search needs
-
-mul-pair-line-2 : tie.Need-mul-pair-line-2
-mul-pair-line-2 c = search needs
-
-mul-pair-line-3 : tie.Need-mul-pair-line-3
-mul-pair-line-3 c = search needs
-
-add-pair-line-2 : tie.Need-add-pair-line-2
-add-pair-line-2 c = search needs
-
 pair-line-requires : tie.Need-pair-line-requires
 unfolding opsLine
 pair-line-requires c κs = let n = operations (edges c) in
     then-room (edges c .put-item2 .ensures) (then-room (n .put-item .ensures) (start n .pre .1))
-
-same-length : tie.Need-same-length
-same-length c = search needs
 
 returns : tie.Need-returns
 unfolding opsLine
@@ -65,5 +35,5 @@ returns c = let l : tie.After-pair-line = c .before .before in let e = edges (l 
 
 pub ops-line-spec : {M : Type 1} → statement M
 ops-line-spec = tie.close (tie.spec
-    slice-aggregate-put-item put-item-requires slice-aggregate-put-item-2 put-item-requires-2 slice-aggregate-pair-line mul-pair-line add-pair-line
-    slice-aggregate-pair-line-2 mul-pair-line-2 mul-pair-line-3 add-pair-line-2 pair-line-requires same-length returns)
+    (λ c. search needs) put-item-requires (λ c. search needs) put-item-requires-2 (λ c. search needs) (λ c. search needs) (λ c. search needs)
+    (λ c. search needs) (λ c. search needs) (λ c. search needs) (λ c. search needs) pair-line-requires (λ c. search needs) returns)
