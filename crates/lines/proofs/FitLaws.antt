@@ -32,15 +32,24 @@ series-short text k (suc n) h = simp length-append (omega (arith, series-short t
 
 ops-short : {n e : ℕ} → CountsFit n e → length (opsLine n e) ≤ 45
 unfolding opsLine
-ops-short {n} {e} c = simp length-append (omega (arith, item-short opsWord 2 n (omega arith), item-short edgesWord 2 e (omega arith),
-    pair-short transitionsWord placesWord 2 2 (3 * n + 2) (3 * n + 2 * e) (omega arith) (omega arith)))
+ops-short {n} {e} c = simp length-append (omega (
+  arith,
+  item-short opsWord 2 n (omega arith),
+  item-short edgesWord 2 e (omega arith),
+  pair-short transitionsWord placesWord 2 2 (3 * n + 2) (3 * n + 2 * e) (omega arith) (omega arith),
+))
 
 -- what a graph's numbers make of the other lines
 module _ {n e a b x y z : ℕ} {ring : List ℕ} {waits : ℕ → ℕ} (g : Printable n e a b x y z ring waits) where
   bounds-short : length (boundLines a b x y z) ≤ 71
   unfolding boundLines
-  bounds-short = simp length-append (omega (arith, pair-short tboWord slashWord 9 9 a b (g .numerator) (g .denominator),
-      line-short tbioWord 9 x (g .tbio), line-short ttWord 9 y (g .total), line-short tceWord 9 z (g .tce)))
+  bounds-short = simp length-append (omega (
+    arith,
+    pair-short tboWord slashWord 9 9 a b (g .numerator) (g .denominator),
+    line-short tbioWord 9 x (g .tbio),
+    line-short ttWord 9 y (g .total),
+    line-short tceWord 9 z (g .tce),
+  ))
 
   circuit-short : length (circuitLine ring) ≤ 740
   unfolding circuitLine ringPlaces lineEnd

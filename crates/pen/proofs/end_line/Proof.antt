@@ -44,7 +44,7 @@ end-line-meets 𝓤 H A W mem run 𝓣 resumes ends fills =
     pass1 ! (init ! 10 refl (tt, (tt, (record { fits = room }, tt)))) $ pass1 ! (init ! 8 refl (tt, record { fits = fits })) $ pass0 ! $
     assigns ! (addr ! (from ! (fld ! refl (hop ! (look-in ! 10 (sub ! 0 refl (whole !))) (stop !))))) (from ! (stop !)) (init ! 2 refl (tt, tt)) $
     assigns ! (agg ! (and-then ! (var ! 2 refl) (and-then ! (load ! (from ! (fld ! refl (stop !))) (look-in ! 10 (sub ! 1 refl (whole !)))) (no-more !))))
-      (from ! (stop !)) (init ! 0 refl (tt, (tt, (record { fits = room }, tt)))) $
+    (from ! (stop !)) (init ! 0 refl (tt, (tt, (record { fits = room }, tt)))) $
     -- what the numbers own goes
     move ! (15 ∷ []) $ fsplit ! $ move ! (1 ∷ []) $ fsplit ! $ drop ! $ drop ! $ move ! (15 ∷ []) $ split ! $ move ! (1 ∷ []) $ drop ! $
     -- [κ's token; what buf owns; the locals, from the last]
@@ -54,7 +54,7 @@ end-line-meets 𝓤 H A W mem run 𝓣 resumes ends fills =
     land ! (from ! (stop !)) (init ! 15 refl (uint-lawful 𝓤 H A W w64 .typed (h₁ .at) _ is .0)) $
     returns ! (look ! 15 refl) $ free-at ! 15 refl $ free-at ! 13 refl $ free-at ! 11 refl $ free-at ! 9 refl $ free-at ! 7 refl $ free-at ! 5 refl $ free-at ! 3 refl $ free0 ! $
     suffices ! _ (ends-at 𝓤 H A end-line.ended stayed (end-line.clauses 𝓤 H A mem run) W ((κs, qs, bounds, a, (slice (a .0) ∷ [], (vint w64 (a .1 .0) ∷ [], tt))), g)
-      w (h₁ .at) (h₁ .buf .now, (tt, tt)) (put-length (wrote-put h₀ lineEnd), (tt, tt))) $ says ! (wrote-put h₀ lineEnd) $
+    w (h₁ .at) (h₁ .buf .now, (tt, tt)) (put-length (wrote-put h₀ lineEnd), (tt, tt))) $ says ! (wrote-put h₀ lineEnd) $
     nothing ! $ move ! (1 ∷ 0 ∷ []) $ join ! $ frame ! $ nothing ! $ nothing ! $ fjoin ! $ move ! (1 ∷ 0 ∷ []) $ fjoin ! $ done !))))))))))))
 
 pub end-line-spec : {M : Type 1} → stated.statement M

@@ -39,23 +39,23 @@ newline-meets 𝓤 H A W mem run 𝓣 known =
     -- [_4; …; _1; …; room for _0; …; the tokens; what the parameters own]
     assigns ! (addr ! (from ! (fld ! refl (fld ! refl (hop ! (look-in ! 6 (sub ! 0 refl (sub ! 0 refl (whole !)))) (stop !)))))) (from ! (stop !)) (init ! 4 refl (tt, tt)) $
     assigns ! (agg ! (and-then ! (var ! 4 refl) (and-then ! (load ! (from ! (fld ! refl (fld ! refl (stop !)))) (look-in ! 6 (sub ! 1 refl (sub ! 0 refl (whole !))))) (no-more !))))
-      (from ! (stop !)) (init ! 2 refl (tt, (tt, (record { fits = room }, tt)))) $
+    (from ! (stop !)) (init ! 2 refl (tt, (tt, (record { fits = room }, tt)))) $
     assigns ! (of-opd ! (load ! (from ! (fld ! refl (stop !))) (look-in ! 6 (sub ! 1 refl (whole !))))) (from ! (stop !)) (init ! 0 refl (tt, record { fits = owed .1 })) $
     move ! (11 ∷ []) $ fsplit ! $ opens W (κs .0) (qs .0) x at ! $ move ! (12 ∷ []) $ split ! $ move ! (2 ∷ 0 ∷ 1 ∷ []) $
     put-call W (κs .0) (qs .0) x at lineEnd ! (fmOf 𝓤 H (W .laws) 𝓣) (owed .0) (owed .1) within (PutNewline 𝓤 H A mem run) known
-      (λ ν δ. (((ν ∷ [], tt), (fullShare, tt), tt, (under x δ (x .now), (at, tt)), (slice x ∷ [], (vint w64 at ∷ [], tt))), tt))
-      (‵ ftrue) ftrue (λ ν δ. id⊢ 𝓤 _)
-      {Z = List ℕ × (Unit {0} × Unit {0})} (λ z. z .0) (λ z. fsep ftrue ftrue) (λ ν δ w. id⊢ 𝓤 _)
-      (λ ν δ. and-then ! (var ! 4 refl) (and-then ! (var ! 2 refl) (no-more !))) (λ r zs e fits.
+    (λ ν δ. (((ν ∷ [], tt), (fullShare, tt), tt, (under x δ (x .now), (at, tt)), (slice x ∷ [], (vint w64 at ∷ [], tt))), tt))
+    (‵ ftrue) ftrue (λ ν δ. id⊢ 𝓤 _)
+    {Z = List ℕ × (Unit {0} × Unit {0})} (λ z. z .0) (λ z. fsep ftrue ftrue) (λ ν δ w. id⊢ 𝓤 _)
+    (λ ν δ. and-then ! (var ! 4 refl) (and-then ! (var ! 2 refl) (no-more !))) (λ r zs e fits.
     -- [what the slice owns; the tokens; _4; …; _1; …; room for _0; …]
     land ! (from ! (fld ! refl (stop !))) (store-in ! 9 (sub ! 1 refl (whole !)) (tt, record { fits = fits })) $
     assigns ! (of-opd ! (var ! 9 refl)) (from ! (stop !)) (init ! 11 refl (tt, ((tt, (record { fits = room }, tt)), (record { fits = fits }, tt)))) $
     returns ! (look ! 11 refl) $ free-at ! 11 refl $ free-at ! 9 refl $ free-at ! 7 refl $ free-at ! 5 refl $ free-at ! 3 refl $ free0 ! $
     suffices ! _ (ends-at 𝓤 H A newline.ended stayed (newline.clauses 𝓤 H A mem run) W ((κs, qs, bounds, a, (mach (slice x) at ∷ [], tt)), g)
-      (mach (slice x) r) (record { buf = under x (x .name) zs; at = r }) ((tt, tt), tt) (tt, tt)) $
+    (mach (slice x) r) (record { buf = under x (x .name) zs; at = r }) ((tt, tt), tt) (tt, tt)) $
     says ! (λ i. record { buf = under x (x .name) (e .stands i); at = e .place i }) $ move ! (1 ∷ 2 ∷ []) $ join ! $ frame ! $
     use1 W (‵ (T.the-row (namedLft 1 0 tt κs) .own (record { buf = under x (x .name) zs; at = r }) (mach (slice x) r ∷ [])))
-      (shuts W (κs .0) (qs .0) (under x (x .name) zs) (slice x) r fits) $ nothing ! $ nothing ! $ fjoin ! $ done !))))))))
+    (shuts W (κs .0) (qs .0) (under x (x .name) zs) (slice x) r fits) $ nothing ! $ nothing ! $ fjoin ! $ done !))))))))
 
 pub newline-spec : {M : Type 1} → stated.statement M
 unfolding code.routine tablesOf

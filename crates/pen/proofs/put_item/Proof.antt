@@ -46,8 +46,13 @@ put-item-meets : {M : Type 1} (𝓤 : URA M) (H : Heap 𝓤) (A : Atoms 𝓤) �
     → Triple 𝓤 (𝓣 .C number-def.name) (Number 𝓤 H A mem run) → Triple 𝓤 (𝓣 .C fill-def.name) (Fill 𝓤 H A mem run)
     → Meets 𝓤 H A put-item.signature (WpFn 𝓤 H (𝓣 .C) (𝓣 .Λ) code.function) (put-item.spec 𝓤 H A mem run)
 put-item-meets 𝓤 H A W mem run 𝓣 resumes words numbers fills =
-    by-walk 𝓤 H A W 𝓣 code.function put-item.ended stayed (goes-gave-slice 𝓤 H A W 2 0 tt (plain (λ _. u8)), (goes-dropped 𝓤 H A W 2 (plain (λ _. usize)) yes (λ κs x f. refl),
-    (goes-dropped 𝓤 H A W 2 WordS yes (λ κs x f. refl), (goes-dropped 𝓤 H A W 2 (plain (λ _. u64)) yes (λ κs x f. refl), tt)))) (put-item.clauses 𝓤 H A mem run)
+    by-walk 𝓤 H A W 𝓣 code.function put-item.ended stayed (
+      goes-gave-slice 𝓤 H A W 2 0 tt (plain (λ _. u8)),
+      (
+        goes-dropped 𝓤 H A W 2 (plain (λ _. usize)) yes (λ κs x f. refl),
+        (goes-dropped 𝓤 H A W 2 WordS yes (λ κs x f. refl), (goes-dropped 𝓤 H A W 2 (plain (λ _. u64)) yes (λ κs x f. refl), tt)),
+      ),
+    ) (put-item.clauses 𝓤 H A mem run)
     (λ κs. (slice-vals, (uint-vals w64, (slice-vals, (uint-vals w64, tt)))))
     (λ κs. (mut-slice-tells (named 0) (κs .0) u8, (uint-tells w64, (shr-slice-tells (named 1) (κs .1 .0) u8, (uint-tells w64, tt))))) (λ κs qs bounds a g are.
     needs 𝓤 (HasRoom (a .0 .now) (a .1 .0) (item (a .1 .1 .0 .now) (a .1 .1 .1 .0))) _ (λ more.
@@ -68,7 +73,7 @@ put-item-meets 𝓤 H A W mem run 𝓣 resumes words numbers fills =
     pass1 ! (init ! 12 refl (tt, (tt, (record { fits = are .1 .1 .0 .0 .1 .0 }, tt)))) $ pass1 ! (init ! 10 refl (tt, record { fits = are .1 .1 .1 .0 .1 })) $ pass0 ! $
     assigns ! (addr ! (from ! (fld ! refl (hop ! (look-in ! 16 (sub ! 0 refl (whole !))) (stop !))))) (from ! (stop !)) (init ! 2 refl (tt, tt)) $
     assigns ! (agg ! (and-then ! (var ! 2 refl) (and-then ! (load ! (from ! (fld ! refl (stop !))) (look-in ! 16 (sub ! 1 refl (whole !)))) (no-more !))))
-      (from ! (stop !)) (init ! 0 refl (tt, (tt, (record { fits = room }, tt)))) $
+    (from ! (stop !)) (init ! 0 refl (tt, (tt, (record { fits = room }, tt)))) $
     -- what the numbers own goes
     move ! (21 ∷ []) $ fsplit ! $ move ! (1 ∷ []) $ fsplit ! $ drop ! $ fsplit ! $ move ! (1 ∷ []) $ fsplit ! $ drop ! $ drop ! $
     move ! (22 ∷ []) $ split ! $ move ! (1 ∷ []) $ split ! $ move ! (1 ∷ []) $ drop ! $ move ! (1 ∷ 3 ∷ 0 ∷ 2 ∷ []) $
@@ -83,8 +88,8 @@ put-item-meets 𝓤 H A W mem run 𝓣 resumes words numbers fills =
     free-at ! 22 refl $ free-at ! 20 refl $ free-at ! 18 refl $ free-at ! 16 refl $ free-at ! 14 refl $ free-at ! 12 refl $
     free-at ! 10 refl $ free-at ! 8 refl $ free-at ! 6 refl $ free-at ! 4 refl $ free0 ! $
     suffices ! _ (ends-at 𝓤 H A put-item.ended stayed (put-item.clauses 𝓤 H A mem run) W
-      ((κs, qs, bounds, a, (slice (a .0) ∷ [], (vint w64 (a .1 .0) ∷ [], (slice s ∷ [], (vint w64 n ∷ [], tt))))), g)
-      w (h₂ .at) (h₂ .buf .now, (tt, (tt, (tt, tt)))) (put-length (item-put h₀ (s .now) n), (tt, (tt, (tt, tt))))) $ says ! (item-put h₀ (s .now) n) $
+    ((κs, qs, bounds, a, (slice (a .0) ∷ [], (vint w64 (a .1 .0) ∷ [], (slice s ∷ [], (vint w64 n ∷ [], tt))))), g)
+    w (h₂ .at) (h₂ .buf .now, (tt, (tt, (tt, tt)))) (put-length (item-put h₀ (s .now) n), (tt, (tt, (tt, tt))))) $ says ! (item-put h₀ (s .now) n) $
     nothing ! $ move ! (4 ∷ 0 ∷ []) $ join ! $ move ! (1 ∷ 0 ∷ []) $ join ! $ frame ! $
     nothing ! $ nothing ! $ fjoin ! $ nothing ! $ fjoin ! $ nothing ! $ fjoin ! $ move ! (1 ∷ 0 ∷ []) $ fjoin ! $ done !))))))))))))))))
 

@@ -32,12 +32,12 @@ resume-meets 𝓤 H A W mem run 𝓣 =
     -- [_4; room…; _3; …; _2; …; _1; …; room for _0; …]: the slice is lent on, put together again, and put into the struct
     assigns ! (addr ! (from ! (fld ! refl (hop ! (look-in ! 6 (sub ! 0 refl (whole !))) (stop !))))) (from ! (stop !)) (init ! 2 refl (tt, tt)) $
     assigns ! (agg ! (and-then ! (var ! 2 refl) (and-then ! (load ! (from ! (fld ! refl (stop !))) (look-in ! 6 (sub ! 1 refl (whole !)))) (no-more !))))
-      (from ! (stop !)) (init ! 0 refl (tt, (tt, (record { fits = room }, tt)))) $
+    (from ! (stop !)) (init ! 0 refl (tt, (tt, (record { fits = room }, tt)))) $
     assigns ! (agg ! (and-then ! (var ! 0 refl) (and-then ! (var ! 4 refl) (no-more !))))
-      (from ! (stop !)) (init ! 8 refl (tt, ((tt, (record { fits = room }, tt)), (record { fits = fits }, tt)))) $
+    (from ! (stop !)) (init ! 8 refl (tt, ((tt, (record { fits = room }, tt)), (record { fits = fits }, tt)))) $
     returns ! (look ! 8 refl) $ free-at ! 8 refl $ free-at ! 6 refl $ free-at ! 4 refl $ free-at ! 2 refl $ free-at ! 0 refl $ free0 ! $
     suffices ! _ (ends-at 𝓤 H A resume.ended stayed (resume.clauses 𝓤 H A mem run) W ((κs, qs, bounds, a, (v ∷ [], (vint w64 n ∷ [], tt))), g)
-      (vstruct (vcons v (vcons (vint w64 n) vnil))) (record { buf = a .0; at = n }) (tt, (tt, tt)) (tt, (tt, tt))) $ says ! (refl, refl) $
+    (vstruct (vcons v (vcons (vint w64 n) vnil))) (record { buf = a .0; at = n }) (tt, (tt, tt)) (tt, (tt, tt))) $ says ! (refl, refl) $
     frame ! $ fsplit ! $ move ! (1 ∷ []) $ drop ! $ nothing ! $ nothing ! $ fjoin ! $ nothing ! $ fjoin ! $ frame ! $ by ! (shuts W (κs .0) (qs .0) (a .0) v n fits))))))))
 
 pub resume-spec : {M : Type 1} → stated.statement M

@@ -15,7 +15,7 @@ put-page-requires : tie.Need-put-page-requires
 unfolding page numberRow pairLine itemLine item lineEnd
 put-page-requires c κs = record {
   room = simp length-append
-    (omega (arith, digits-short 0 0 (omega arith), digits-short 0 9 (omega arith), digits-short 1 10 (omega arith), digits-short 19 18446744073709551615 (omega arith)));
+      (omega (arith, digits-short 0 0 (omega arith), digits-short 0 9 (omega arith), digits-short 1 10 (omega arith), digits-short 19 18446744073709551615 (omega arith)));
 }
 
 array-share-prefix-buf : tie.Need-array-share-prefix-buf
