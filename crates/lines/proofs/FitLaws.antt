@@ -4,11 +4,11 @@ use native.Mathlib.Omega.{arith}
 use mathlib.Core.List.{List}
 use lib.ListN.{length, length-append}
 use Rattle.marked.specs.Net.{at}
-use Rattle.pen.specs.Lines.{Fits, lineEnd, item, itemLine, pairLine, each}
+use Rattle.pen.specs.Lines.{HasRoom, lineEnd, item, itemLine, pairLine, series}
 use Rattle.pen.proofs.DigitLaws.{digits-short}
 use Rattle.lines.specs.Words.{opsWord, edgesWord, transitionsWord, placesWord, tboWord, slashWord, tbioWord, ttWord, tceWord, blankWord, waitWord, refusedWord, atWord}
 use Rattle.lines.specs.Text.{opsLine, boundLines, ringPlace, ringPlaces, circuitLine, headText, waitOf, waitLines, reportText, refusedLine}
-use Rattle.lines.specs.Limits.{Counts, Limited, Writable}
+use Rattle.lines.specs.helpers.Limits.{CountsFit, Printable, Writable}
 
 -- a number below 10 ^ suc k behind a word has at most suc k bytes more than the word
 item-short : (name : List ℕ) (k n : ℕ) → n < 10 ^ suc k → length (item name n) ≤ length name + suc k
@@ -26,27 +26,38 @@ unfolding pairLine
 pair-short name bar j k m n h l = simp length-append (omega (arith, item-short name j m h, line-short bar k n l))
 
 -- texts of at most k bytes
-each-short : (text : ℕ → List ℕ) (k n : ℕ) → ((i : ℕ) → i < n → length (text i) ≤ k) → length (each text n) ≤ k * n
-each-short text k zero h = omega arith
-each-short text k (suc n) h = simp length-append (omega (arith, each-short text k n (λ i l. h i (omega arith)), h n (omega arith)))
+series-short : (text : ℕ → List ℕ) (k n : ℕ) → ((i : ℕ) → i < n → length (text i) ≤ k) → length (series text n) ≤ k * n
+series-short text k zero h = omega arith
+series-short text k (suc n) h = simp length-append (omega (arith, series-short text k n (λ i l. h i (omega arith)), h n (omega arith)))
 
-ops-short : {n e : ℕ} → Counts n e → length (opsLine n e) ≤ 45
+ops-short : {n e : ℕ} → CountsFit n e → length (opsLine n e) ≤ 45
 unfolding opsLine
-ops-short {n} {e} c = simp length-append (omega (arith, item-short opsWord 2 n (omega arith), item-short edgesWord 2 e (omega arith), pair-short transitionsWord placesWord 2 2 (3 * n + 2) (3 * n + 2 * e) (omega arith) (omega arith)))
+ops-short {n} {e} c = simp length-append (omega (
+  arith,
+  item-short opsWord 2 n (omega arith),
+  item-short edgesWord 2 e (omega arith),
+  pair-short transitionsWord placesWord 2 2 (3 * n + 2) (3 * n + 2 * e) (omega arith) (omega arith),
+))
 
 -- what a graph's numbers make of the other lines
-module _ {n e a b x y z : ℕ} {ring : List ℕ} {waits : ℕ → ℕ} (g : Limited n e a b x y z ring waits) where
+module _ {n e a b x y z : ℕ} {ring : List ℕ} {waits : ℕ → ℕ} (g : Printable n e a b x y z ring waits) where
   bounds-short : length (boundLines a b x y z) ≤ 71
   unfolding boundLines
-  bounds-short = simp length-append (omega (arith, pair-short tboWord slashWord 9 9 a b (g .numerator) (g .denominator), line-short tbioWord 9 x (g .tbio), line-short ttWord 9 y (g .total), line-short tceWord 9 z (g .tce)))
+  bounds-short = simp length-append (omega (
+    arith,
+    pair-short tboWord slashWord 9 9 a b (g .numerator) (g .denominator),
+    line-short tbioWord 9 x (g .tbio),
+    line-short ttWord 9 y (g .total),
+    line-short tceWord 9 z (g .tce),
+  ))
 
   circuit-short : length (circuitLine ring) ≤ 740
   unfolding circuitLine ringPlaces lineEnd
-  circuit-short = simp length-append (omega (arith, each-short (ringPlace ring) 6 (length ring) (λ i l. item-short blankWord 4 (at ring i) (g .places i l))))
+  circuit-short = simp length-append (omega (arith, series-short (ringPlace ring) 6 (length ring) (λ i l. item-short blankWord 4 (at ring i) (g .places i l))))
 
   waits-short : length (waitLines n waits) ≤ 2440
   unfolding waitLines
-  waits-short = omega (arith, each-short (waitOf waits) 20 (3 * n + 2) (λ t l. pair-short waitWord blankWord 2 9 t (waits t) (omega arith) (g .waited t l)))
+  waits-short = omega (arith, series-short (waitOf waits) 20 (3 * n + 2) (λ t l. pair-short waitWord blankWord 2 9 t (waits t) (omega arith) (g .waited t l)))
 
   -- every report fits
   pub report-fits : length (reportText n e a b x y z ring waits) ≤ 4096
@@ -54,9 +65,10 @@ module _ {n e a b x y z : ℕ} {ring : List ℕ} {waits : ℕ → ℕ} (g : Limi
   report-fits = simp length-append (omega (arith, ops-short (g .counts), bounds-short, circuit-short, waits-short))
 
 -- so what may be written fits, where 16 and 32 bits limit the other numbers
-pub writable-fits : {buf : List ℕ} {n e a b : ℕ} {ring waits : List ℕ} → Writable buf n e a b ring waits → (x y z : ℕ) → x < 2 ^ 32 → y < 2 ^ 32 → z < 2 ^ 32 → ((i : ℕ) → at ring i < 2 ^ 16) → ((t : ℕ) → at waits t < 2 ^ 32) → Fits buf 0 (reportText n e a b x y z ring (at waits))
+pub writable-fits : {buf : List ℕ} {n e a b : ℕ} {ring waits : List ℕ} → Writable buf n e a b ring waits → (x y z : ℕ) → x < 2 ^ 32 → y < 2 ^ 32 → z < 2 ^ 32
+    → ((i : ℕ) → at ring i < 2 ^ 16) → ((t : ℕ) → at waits t < 2 ^ 32) → HasRoom buf 0 (reportText n e a b x y z ring (at waits))
 writable-fits {n = n} {e = e} {a = a} {b = b} {ring = ring} {waits = waits} w x y z hx hy hz hr hw =
-    let g : Limited n e a b x y z ring (at waits) = record {
+    let g : Printable n e a b x y z ring (at waits) = record {
       counts = w .counts;
       numerator = w .numerator;
       denominator = w .denominator;

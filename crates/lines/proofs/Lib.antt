@@ -1,2 +1,3 @@
+-- The laws of the lines, lowest first.
 pub mod FitLaws
 pub mod Example

@@ -3,8 +3,9 @@ use Prim.Native.Nat.{ℕ, _+_, _*_}
 use mathlib.Core.List.{List, _++_}
 use lib.ListN.{length}
 use Rattle.marked.specs.Net.{at}
-use Rattle.pen.specs.Lines.{lineEnd, item, itemLine, pairLine, each}
-use Rattle.lines.specs.Words.{opsWord, edgesWord, transitionsWord, placesWord, tboWord, slashWord, tbioWord, ttWord, tceWord, circuitWord, blankWord, waitWord, refusedWord, atWord}
+use Rattle.pen.specs.Lines.{lineEnd, item, itemLine, pairLine, series}
+use Rattle.lines.specs.Words.{opsWord, edgesWord, transitionsWord, placesWord, tboWord, slashWord, tbioWord, ttWord, tceWord}
+use Rattle.lines.specs.Words.{circuitWord, blankWord, waitWord, refusedWord, atWord}
 
 -- The four counts of N operations and E edges: `ops N edges E transitions 3N+2 places 3N+2E`.
 unfoldable pub opsLine : ℕ → ℕ → List ℕ
@@ -24,7 +25,7 @@ ringPlace ring i = item blankWord (at ring i)
 
 -- Each place of the circuit behind a blank.
 unfoldable pub ringPlaces : List ℕ → List ℕ
-ringPlaces ring = each (ringPlace ring) (length ring)
+ringPlaces ring = series (ringPlace ring) (length ring)
 
 -- The circuit's places in travel order: `circuit P Q ..`.
 unfoldable pub circuitLine : List ℕ → List ℕ
@@ -44,7 +45,7 @@ waitOf waits t = waitLine t (waits t)
 
 -- The waits of all transitions of N operations, 0 to 3N+1 in order.
 unfoldable pub waitLines : ℕ → (ℕ → ℕ) → List ℕ
-waitLines n waits = each (waitOf waits) (3 * n + 2)
+waitLines n waits = series (waitOf waits) (3 * n + 2)
 
 -- The report of an accepted file: its counts N and E, its bounds A/B, X, Y and Z, its circuit, and each transition's wait.
 unfoldable pub reportText : ℕ → ℕ → ℕ → ℕ → ℕ → ℕ → ℕ → List ℕ → (ℕ → ℕ) → List ℕ

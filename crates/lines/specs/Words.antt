@@ -1,59 +1,46 @@
--- The words of the report, as bytes; each comment shows its word.
+-- The words of the report.
 use Prim.Native.Nat.{ℕ}
-use mathlib.Core.List.{List, [], _∷_}
+use mathlib.Core.List.{List}
+use Rattle.little.specs.Text.{bytes}
 
--- `ops `
 abbrev pub opsWord : List ℕ
-opsWord = 111 ∷ 112 ∷ 115 ∷ 32 ∷ []
+opsWord = bytes "ops "
 
--- ` edges `
 abbrev pub edgesWord : List ℕ
-edgesWord = 32 ∷ 101 ∷ 100 ∷ 103 ∷ 101 ∷ 115 ∷ 32 ∷ []
+edgesWord = bytes " edges "
 
--- ` transitions `
 abbrev pub transitionsWord : List ℕ
-transitionsWord = 32 ∷ 116 ∷ 114 ∷ 97 ∷ 110 ∷ 115 ∷ 105 ∷ 116 ∷ 105 ∷ 111 ∷ 110 ∷ 115 ∷ 32 ∷ []
+transitionsWord = bytes " transitions "
 
--- ` places `
 abbrev pub placesWord : List ℕ
-placesWord = 32 ∷ 112 ∷ 108 ∷ 97 ∷ 99 ∷ 101 ∷ 115 ∷ 32 ∷ []
+placesWord = bytes " places "
 
--- `TBO `
 abbrev pub tboWord : List ℕ
-tboWord = 84 ∷ 66 ∷ 79 ∷ 32 ∷ []
+tboWord = bytes "TBO "
 
--- `/`
 abbrev pub slashWord : List ℕ
-slashWord = 47 ∷ []
+slashWord = bytes "/"
 
--- `TBIO `
 abbrev pub tbioWord : List ℕ
-tbioWord = 84 ∷ 66 ∷ 73 ∷ 79 ∷ 32 ∷ []
+tbioWord = bytes "TBIO "
 
--- `TT `
 abbrev pub ttWord : List ℕ
-ttWord = 84 ∷ 84 ∷ 32 ∷ []
+ttWord = bytes "TT "
 
--- `TCE `
 abbrev pub tceWord : List ℕ
-tceWord = 84 ∷ 67 ∷ 69 ∷ 32 ∷ []
+tceWord = bytes "TCE "
 
--- `circuit`
 abbrev pub circuitWord : List ℕ
-circuitWord = 99 ∷ 105 ∷ 114 ∷ 99 ∷ 117 ∷ 105 ∷ 116 ∷ []
+circuitWord = bytes "circuit"
 
--- ` `
 abbrev pub blankWord : List ℕ
-blankWord = 32 ∷ []
+blankWord = bytes " "
 
--- `wait `
 abbrev pub waitWord : List ℕ
-waitWord = 119 ∷ 97 ∷ 105 ∷ 116 ∷ 32 ∷ []
+waitWord = bytes "wait "
 
--- `refused `
 abbrev pub refusedWord : List ℕ
-refusedWord = 114 ∷ 101 ∷ 102 ∷ 117 ∷ 115 ∷ 101 ∷ 100 ∷ 32 ∷ []
+refusedWord = bytes "refused "
 
--- ` at `
 abbrev pub atWord : List ℕ
-atWord = 32 ∷ 97 ∷ 116 ∷ 32 ∷ []
+atWord = bytes " at "

@@ -1,13 +1,13 @@
 // The lines before the waits, over plain values: one function a line, each written behind the last into the lent buffer.
-ghost use Rattle.pen.specs.Lines.{Fits, Put, item};
+ghost use Rattle.pen.specs.Lines.{HasRoom, Put, item};
 ghost use Rattle.lines.specs.Words.{blankWord};
 ghost use Rattle.lines.specs.Text.{opsLine, boundLines, ringPlaces, circuitLine, headText};
-ghost use Rattle.lines.specs.Limits.{Counts};
+ghost use Rattle.lines.specs.helpers.Limits.{CountsFit};
 
 // The four counts, as `ops 1 edges 2 transitions 5 places 7`.
 fn ops_line(buf: &mut [u8], at: usize, n: usize, e: usize) -> usize
-    requires { ⌜ Counts n e ⌝ }
-    requires { ⌜ Fits (now buf) at (opsLine n e) ⌝ }
+    requires { ⌜ CountsFit n e ⌝ }
+    requires { ⌜ HasRoom (now buf) at (opsLine n e) ⌝ }
     ensures { λ r. ⌜ Put (now (buf .entry)) at (opsLine n e) (now (buf .exit)) r ⌝ }
 {
     let edges_at = pen::put_item(buf, at, b"ops ", n as u64);
@@ -24,7 +24,7 @@ fn ops_line(buf: &mut [u8], at: usize, n: usize, e: usize) -> usize
 
 // The bounds, as `TBO 15/2`, `TBIO 5`, `TT 10`, `TCE 15`; `total` is TT.
 fn bound_lines(buf: &mut [u8], at: usize, a: u64, b: u64, tbio: u32, total: u32, tce: u32) -> usize
-    requires { ⌜ Fits (now buf) at (boundLines a b tbio total tce) ⌝ }
+    requires { ⌜ HasRoom (now buf) at (boundLines a b tbio total tce) ⌝ }
     ensures { λ r. ⌜ Put (now (buf .entry)) at (boundLines a b tbio total tce) (now (buf .exit)) r ⌝ }
 {
     let tbio_at = pen::pair_line(buf, at, b"TBO ", a, b"/", b);
@@ -35,7 +35,7 @@ fn bound_lines(buf: &mut [u8], at: usize, a: u64, b: u64, tbio: u32, total: u32,
 
 // One place of the circuit, behind a blank.
 fn ring_place(buf: &mut [u8], at: usize, place: u16) -> usize
-    requires { ⌜ Fits (now buf) at (item blankWord place) ⌝ }
+    requires { ⌜ HasRoom (now buf) at (item blankWord place) ⌝ }
     ensures { λ r. ⌜ Put (now (buf .entry)) at (item blankWord place) (now (buf .exit)) r ⌝ }
 {
     pen::put_item(buf, at, b" ", place as u64)
@@ -43,7 +43,7 @@ fn ring_place(buf: &mut [u8], at: usize, place: u16) -> usize
 
 // All places of the circuit.
 fn ring_places(buf: &mut [u8], at: usize, ring: &[u16]) -> usize
-    requires { ⌜ Fits (now buf) at (ringPlaces (now ring)) ⌝ }
+    requires { ⌜ HasRoom (now buf) at (ringPlaces (now ring)) ⌝ }
     ensures { λ r. ⌜ Put (now (buf .entry)) at (ringPlaces (now (ring .entry))) (now (buf .exit)) r ⌝ }
 {
     let mut next = at;
@@ -57,7 +57,7 @@ fn ring_places(buf: &mut [u8], at: usize, ring: &[u16]) -> usize
 
 // The circuit, as `circuit 0 1 2`.
 fn circuit_line(buf: &mut [u8], at: usize, ring: &[u16]) -> usize
-    requires { ⌜ Fits (now buf) at (circuitLine (now ring)) ⌝ }
+    requires { ⌜ HasRoom (now buf) at (circuitLine (now ring)) ⌝ }
     ensures { λ r. ⌜ Put (now (buf .entry)) at (circuitLine (now (ring .entry))) (now (buf .exit)) r ⌝ }
 {
     let ring_at = pen::put_word(buf, at, b"circuit");
@@ -78,8 +78,8 @@ pub fn head_lines(
     tce: u32,
     ring: &[u16],
 ) -> usize
-    requires { ⌜ Counts n e ⌝ }
-    requires { ⌜ Fits (now buf) at (headText n e a b tbio total tce (now ring)) ⌝ }
+    requires { ⌜ CountsFit n e ⌝ }
+    requires { ⌜ HasRoom (now buf) at (headText n e a b tbio total tce (now ring)) ⌝ }
     ensures { λ r. ⌜ Put (now (buf .entry)) at (headText n e a b tbio total tce (now (ring .entry))) (now (buf .exit)) r ⌝ }
 {
     let bounds_at = ops_line(buf, at, n, e);

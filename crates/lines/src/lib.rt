@@ -9,7 +9,7 @@ ghost use lib.ListN.{length};
 ghost use Rattle.marked.specs.Net.{at};
 ghost use Rattle.pen.specs.Lines.{Put};
 ghost use Rattle.lines.specs.Text.{reportText, refusedLine};
-ghost use Rattle.lines.specs.Limits.{Writable};
+ghost use Rattle.lines.specs.helpers.Limits.{Writable};
 
 // The whole report, from the buffer's first byte; says how long it is.
 pub fn write_report(

@@ -1,3 +1,6 @@
+-- The laws and walks of the pen, lowest first.
+pub mod Logic
+pub mod Walks
 pub mod DigitLaws
 pub mod PutLaws
 pub mod Again

@@ -1,4 +1,4 @@
--- Writes one behind the other are one write: laws of `Fits`, `Put` and `wrote`, from which every line and loop of lines is put together.
+-- Writes one behind the other are one write: laws of `HasRoom`, `Put` and `wrote`, from which every line and loop of lines is put together.
 use mathlib.Core.Path.{_≡_, refl, ap, sym, _∙_}
 use Prim.Native.Nat.{ℕ, zero, suc, _+_, _<_, _≤_}
 use mathlib.Core.Logic.{_⊎_, inl, inr}
@@ -10,7 +10,7 @@ use lib.ListN.{length, set, take, getD, length-append}
 use lib.Seq.{sets, length-sets, take-suc}
 use denote.Ref.{now}
 use Rattle.pen.specs.declared.Writer.{Writer}
-use Rattle.pen.specs.Lines.{Fits, Put, wrote, each}
+use Rattle.pen.specs.Lines.{HasRoom, Put, wrote, series}
 
 sets-append : (l : List ℕ) (i : ℕ) (a b : List ℕ) → sets l i (a ++ b) ≡ sets (sets l i a) (i + length a) b
 sets-append l i [] b = ap (λ (k : ℕ). sets l k b) (sym (add-zero i))
@@ -20,80 +20,80 @@ sets-append l i (x ∷ a) b = sets-append (set l i x) (suc i) a b ∙ ap (λ (k 
 module _ {l z : List ℕ} {at r : ℕ} {a : List ℕ} (p : Put l at a z r) where
   -- the buffer is as long as it was
   pub put-length : length z ≡ length l
-  put-length = ap length (p .bytes) ∙ length-sets l at a
+  put-length = ap length (p .stands) ∙ length-sets l at a
 
   -- and where there was room, the place is within it
-  pub put-within : Fits l at a → r ≤ length z
+  pub put-within : HasRoom l at a → r ≤ length z
   put-within f = omega (arith, put-length, p .place, f .room)
 
-  pub then-room : {b : List ℕ} → Fits l at (a ++ b) → Fits z r b
+  pub then-room : {b : List ℕ} → HasRoom l at (a ++ b) → HasRoom z r b
   then-room {b} f = record { room = omega (arith, put-length, p .place, f .room, length-append a b) }
 
   pub then-put : {b z′ : List ℕ} {r′ : ℕ} → Put z r b z′ r′ → Put l at (a ++ b) z′ r′
   then-put {b} q = record {
     place = omega (arith, length-append a b, p .place, q .place);
-    bytes = q .bytes ∙ (λ i. sets (p .bytes i) (p .place i) b) ∙ sym (sets-append l at a b);
+    stands = q .stands ∙ (λ i. sets (p .stands i) (p .place i) b) ∙ sym (sets-append l at a b);
   }
 
 -- where there is room for both, there is room for the first
-pub first-room : {l : List ℕ} {at : ℕ} {a : List ℕ} (b : List ℕ) → Fits l at (a ++ b) → Fits l at a
+pub first-room : {l : List ℕ} {at : ℕ} {a : List ℕ} (b : List ℕ) → HasRoom l at (a ++ b) → HasRoom l at a
 first-room {a = a} b f = record { room = omega (arith, f .room, length-append a b) }
 
 -- what is put determines the buffer and the place behind it
 pub put-unique : {l y z : List ℕ} {at r s : ℕ} {a b : List ℕ} → a ≡ b → Put l at a y r → Put l at b z s → (r ≡ s) × (y ≡ z)
-put-unique {l} {at = at} e p q = (p .place ∙ ap (λ (t : List ℕ). at + length t) e ∙ sym (q .place), p .bytes ∙ ap (λ (t : List ℕ). sets l at t) e ∙ sym (q .bytes))
+put-unique {l} {at = at} e p q = (p .place ∙ ap (λ (t : List ℕ). at + length t) e ∙ sym (q .place), p .stands ∙ ap (λ (t : List ℕ). sets l at t) e ∙ sym (q .stands))
 
 -- what a writer wrote is put
 pub wrote-put : (w : Writer) (a : List ℕ) → Put (now (w .buf)) (w .at) a (now (wrote w a .buf)) (wrote w a .at)
-wrote-put w a = record { place = refl; bytes = refl }
+wrote-put w a = record { place = refl; stands = refl }
 
 -- where a writer has room for two texts, it has room for the first, and after it for the second
-pub wrote-room : (w : Writer) (a b : List ℕ) → Fits (now (w .buf)) (w .at) (a ++ b) → Fits (now (w .buf)) (w .at) a × Fits (now (wrote w a .buf)) (wrote w a .at) b
+pub wrote-room : (w : Writer) (a b : List ℕ) → HasRoom (now (w .buf)) (w .at) (a ++ b) → HasRoom (now (w .buf)) (w .at) a × HasRoom (now (wrote w a .buf)) (wrote w a .at) b
 wrote-room w a b f = (first-room b f, then-room (wrote-put w a) f)
 
 -- one more byte behind a text
 pub put-byte : {l z : List ℕ} {at r r′ : ℕ} {a : List ℕ} → Put l at a z r → (d : ℕ) → r′ ≡ r + 1 → Put l at (a ++ (d ∷ [])) (set z r d) r′
-put-byte p d e = then-put p (record { place = e; bytes = refl })
+put-byte p d e = then-put p (record { place = e; stands = refl })
 
 -- one more byte of a word
 pub put-next : {l z : List ℕ} {at : ℕ} (s : List ℕ) (i : ℕ) → i < length s → Put l at (take i s) z (at + i) → Put l at (take (i + 1) s) (set z (at + i) (getD s i 0)) (at + (i + 1))
 put-next s i h p = rw (add-one i, take-suc s i 0 h) (put-byte p (getD s i 0) (omega arith))
 
 -- texts that agree one by one agree in a row
-pub each-same : (x y : ℕ → List ℕ) (n : ℕ) → ((i : ℕ) → i < n → x i ≡ y i) → each x n ≡ each y n
-each-same x y zero h = refl
-each-same x y (suc n) h =
-    let a = each-same x y n (λ i l. h i (omega arith)) in
+pub series-same : (x y : ℕ → List ℕ) (n : ℕ) → ((i : ℕ) → i < n → x i ≡ y i) → series x n ≡ series y n
+series-same x y zero h = refl
+series-same x y (suc n) h =
+    let a = series-same x y n (λ i l. h i (omega arith)) in
     let b = h n (omega arith) in
     cc
 
 -- the first i texts are shorter than the first n
-each-length : (text : ℕ → List ℕ) (i n : ℕ) → i < n → length (each text i) + length (text i) ≤ length (each text n)
-each-length text i zero h = absurd (omega arith)
-each-length text i (suc n) h = go (eq-or-lt-of-le (omega arith)) (λ k. each-length text i n k)
+series-length : (text : ℕ → List ℕ) (i n : ℕ) → i < n → length (series text i) + length (text i) ≤ length (series text n)
+series-length text i zero h = absurd (omega arith)
+series-length text i (suc n) h = go (eq-or-lt-of-le (omega arith)) (λ k. series-length text i n k)
   where
-    go : (i ≡ n) ⊎ (i < n) → (i < n → length (each text i) + length (text i) ≤ length (each text n)) → length (each text i) + length (text i) ≤ length (each text n ++ text n)
-    go (inl e) on = omega (arith, length-append (each text n) (text n), ap (λ (k : ℕ). length (each text k)) e, ap (λ (k : ℕ). length (text k)) e)
-    go (inr k) on = omega (arith, length-append (each text n) (text n), on k)
+    go : (i ≡ n) ⊎ (i < n) → (i < n → length (series text i) + length (text i) ≤ length (series text n)) → length (series text i) + length (text i) ≤ length (series text n ++ text n)
+    go (inl e) on = omega (arith, length-append (series text n) (text n), ap (λ (k : ℕ). length (series text k)) e, ap (λ (k : ℕ). length (text k)) e)
+    go (inr k) on = omega (arith, length-append (series text n) (text n), on k)
 
 -- a loop of texts, from `at` on in l: of n that fit, i are put, which leaves z and the place r
 pub record Putting (text : ℕ → List ℕ) (n : ℕ) (l : List ℕ) (at : ℕ) (z : List ℕ) (r i : ℕ) : Type 0 where
   pub within : i ≤ n
-  pub fits : Fits l at (each text n)
-  pub put : Put l at (each text i) z r
+  pub fits : HasRoom l at (series text n)
+  pub put : Put l at (series text i) z r
 
-pub putting-start : {text : ℕ → List ℕ} {n : ℕ} {l : List ℕ} {at : ℕ} → Fits l at (each text n) → Putting text n l at l at 0
-putting-start f = record { within = omega arith; fits = f; put = record { place = omega arith; bytes = refl } }
+pub putting-start : {text : ℕ → List ℕ} {n : ℕ} {l : List ℕ} {at : ℕ} → HasRoom l at (series text n) → Putting text n l at l at 0
+putting-start f = record { within = omega arith; fits = f; put = record { place = omega arith; stands = refl } }
 
 module _ {text : ℕ → List ℕ} {n : ℕ} {l : List ℕ} {at : ℕ} {z : List ℕ} {r i : ℕ} (g : Putting text n l at z r i) where
   -- there is room for the next
-  pub putting-room : i < n → Fits z r (text i)
-  putting-room h = record { room = omega (arith, put-length (g .put), g .put .place, g .fits .room, each-length text i n h) }
+  pub putting-room : i < n → HasRoom z r (text i)
+  putting-room h = record { room = omega (arith, put-length (g .put), g .put .place, g .fits .room, series-length text i n h) }
 
   -- with it, one more is put
   pub putting-on : {z′ : List ℕ} {r′ : ℕ} → i < n → Put z r (text i) z′ r′ → Putting text n l at z′ r′ (i + 1)
   putting-on h p = record { within = omega arith; fits = g .fits; put = rw (add-one i) (then-put (g .put) p) }
 
   -- at the end all are put
-  pub putting-end : n ≤ i → Put l at (each text n) z r
+  pub putting-end : n ≤ i → Put l at (series text n) z r
   putting-end h = let e : i ≡ n = omega (arith, g .within) in rw e at (g .put)

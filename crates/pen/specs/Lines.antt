@@ -1,29 +1,30 @@
 -- Text put into a buffer, and the texts that lines are made of.
 use mathlib.Core.Path.{_≡_}
 use Prim.Native.Nat.{ℕ, zero, suc, _+_, _≤_}
-use mathlib.Core.List.{List, [], _∷_, _++_}
+use mathlib.Core.List.{List, [], _++_}
 use lib.ListN.{length}
 use lib.Seq.{sets}
+use Rattle.little.specs.Text.{bytes}
 use denote.Ref.{now, at-last}
 use Rattle.pen.specs.declared.Writer.{Writer}
 use Rattle.pen.specs.Digits.{digits}
 
 -- the text has room in the buffer from `at` on
-pub record Fits (buf : List ℕ) (at : ℕ) (text : List ℕ) : Type 0 where
+pub record HasRoom (buf : List ℕ) (at : ℕ) (text : List ℕ) : Type 0 where
   pub room : at + length text ≤ length buf
 
 -- the buffer before has become the buffer after: the text stands from `at` on, all else is as it was, and `next` is the place behind it
 pub record Put (before : List ℕ) (at : ℕ) (text after : List ℕ) (next : ℕ) : Type 0 where
   pub place : next ≡ at + length text
-  pub bytes : after ≡ sets before at text
+  pub stands : after ≡ sets before at text
 
 -- the writer with the text written: the same borrow, the text's bytes from its place on, and the place behind them
 abbrev pub wrote : Writer → List ℕ → Writer
 wrote w text = record { buf = at-last (w .buf) (sets (now (w .buf)) (w .at) text); at = w .at + length text }
 
--- a line end: the newline byte
+-- a line end: the newline byte, 10
 unfoldable pub lineEnd : List ℕ
-lineEnd = 10 ∷ []
+lineEnd = bytes "\n"
 
 -- a word and a number
 unfoldable pub item : List ℕ → ℕ → List ℕ
@@ -38,6 +39,6 @@ unfoldable pub pairLine : List ℕ → ℕ → List ℕ → ℕ → List ℕ
 pairLine name m bar n = item name m ++ itemLine bar n
 
 -- the texts of 0, 1, .. n - 1, one behind the other
-abbrev pub each : (ℕ → List ℕ) → ℕ → List ℕ
-each text zero = []
-each text (suc n) = each text n ++ text n
+abbrev pub series : (ℕ → List ℕ) → ℕ → List ℕ
+series text zero = []
+series text (suc n) = series text n ++ text n

@@ -1,7 +1,7 @@
 // The pen: a writer that holds the lent report buffer and its fill, over plain functions that put words, numbers and line ends.
 ghost use mathlib.Core.Path.{_≡_};
 ghost use Rattle.pen.specs.Digits.{digits};
-ghost use Rattle.pen.specs.Lines.{Fits, Put, wrote, lineEnd, item, itemLine, pairLine};
+ghost use Rattle.pen.specs.Lines.{HasRoom, Put, wrote, lineEnd, item, itemLine, pairLine};
 
 // The buffer on loan, and where its next byte goes.
 pub struct Writer<'a> {
@@ -11,7 +11,7 @@ pub struct Writer<'a> {
 
 // Copies a word into the buffer from `at` on, and says where the next byte goes.
 pub fn put_word(buf: &mut [u8], at: usize, s: &[u8]) -> usize
-    requires { ⌜ Fits (now buf) at (now s) ⌝ }
+    requires { ⌜ HasRoom (now buf) at (now s) ⌝ }
     ensures { λ r. ⌜ Put (now (buf .entry)) at (now (s .entry)) (now (buf .exit)) r ⌝ }
 {
     let mut i = 0;
@@ -24,7 +24,7 @@ pub fn put_word(buf: &mut [u8], at: usize, s: &[u8]) -> usize
 
 // Writes the decimal digits of n: those of its tenth, then the last.
 pub fn put_number(buf: &mut [u8], at: usize, n: u64) -> usize
-    requires { ⌜ Fits (now buf) at (digits n) ⌝ }
+    requires { ⌜ HasRoom (now buf) at (digits n) ⌝ }
     ensures { λ r. ⌜ Put (now (buf .entry)) at (digits n) (now (buf .exit)) r ⌝ }
 {
     if n < 10 {
@@ -38,7 +38,7 @@ pub fn put_number(buf: &mut [u8], at: usize, n: u64) -> usize
 
 // Ends the line.
 pub fn put_newline(buf: &mut [u8], at: usize) -> usize
-    requires { ⌜ Fits (now buf) at lineEnd ⌝ }
+    requires { ⌜ HasRoom (now buf) at lineEnd ⌝ }
     ensures { λ r. ⌜ Put (now (buf .entry)) at lineEnd (now (buf .exit)) r ⌝ }
 {
     buf[at] = 10;
@@ -61,7 +61,7 @@ pub fn fill<'a>(w: Writer<'a>) -> usize
 
 // Writes a word, and hands the writer back.
 pub fn word<'a, 'b>(mut w: Writer<'a>, s: &'b [u8]) -> Writer<'a>
-    requires { ⌜ Fits (now (w .buf)) (w .at) (now s) ⌝ }
+    requires { ⌜ HasRoom (now (w .buf)) (w .at) (now s) ⌝ }
     ensures { λ r. ⌜ r ≡ wrote (w .entry) (now (s .entry)) ⌝ }
 {
     w.at = put_word(w.buf, w.at, s);
@@ -70,7 +70,7 @@ pub fn word<'a, 'b>(mut w: Writer<'a>, s: &'b [u8]) -> Writer<'a>
 
 // Writes a number's decimal digits, and hands the writer back.
 pub fn number<'a>(mut w: Writer<'a>, n: u64) -> Writer<'a>
-    requires { ⌜ Fits (now (w .buf)) (w .at) (digits n) ⌝ }
+    requires { ⌜ HasRoom (now (w .buf)) (w .at) (digits n) ⌝ }
     ensures { λ r. ⌜ r ≡ wrote (w .entry) (digits n) ⌝ }
 {
     w.at = put_number(w.buf, w.at, n);
@@ -79,7 +79,7 @@ pub fn number<'a>(mut w: Writer<'a>, n: u64) -> Writer<'a>
 
 // Ends the line, and hands the writer back.
 pub fn newline<'a>(mut w: Writer<'a>) -> Writer<'a>
-    requires { ⌜ Fits (now (w .buf)) (w .at) lineEnd ⌝ }
+    requires { ⌜ HasRoom (now (w .buf)) (w .at) lineEnd ⌝ }
     ensures { λ r. ⌜ r ≡ wrote (w .entry) lineEnd ⌝ }
 {
     w.at = put_newline(w.buf, w.at);
@@ -88,7 +88,7 @@ pub fn newline<'a>(mut w: Writer<'a>) -> Writer<'a>
 
 // A word and a number, from `at` on: what every line is made of. The writer stays inside, so callers need only the buffer and a place.
 pub fn put_item<'a, 'b>(buf: &'a mut [u8], at: usize, name: &'b [u8], n: u64) -> usize
-    requires { ⌜ Fits (now buf) at (item (now name) n) ⌝ }
+    requires { ⌜ HasRoom (now buf) at (item (now name) n) ⌝ }
     ensures { λ r. ⌜ Put (now (buf .entry)) at (item (now (name .entry)) n) (now (buf .exit)) r ⌝ }
 {
     fill(number(word(resume(buf, at), name), n))
@@ -96,7 +96,7 @@ pub fn put_item<'a, 'b>(buf: &'a mut [u8], at: usize, name: &'b [u8], n: u64) ->
 
 // A line end alone.
 pub fn end_line(buf: &mut [u8], at: usize) -> usize
-    requires { ⌜ Fits (now buf) at lineEnd ⌝ }
+    requires { ⌜ HasRoom (now buf) at lineEnd ⌝ }
     ensures { λ r. ⌜ Put (now (buf .entry)) at lineEnd (now (buf .exit)) r ⌝ }
 {
     fill(newline(resume(buf, at)))
@@ -104,7 +104,7 @@ pub fn end_line(buf: &mut [u8], at: usize) -> usize
 
 // A line of a word and a number, as `TCE 5`.
 pub fn item_line(buf: &mut [u8], at: usize, name: &[u8], n: u64) -> usize
-    requires { ⌜ Fits (now buf) at (itemLine (now name) n) ⌝ }
+    requires { ⌜ HasRoom (now buf) at (itemLine (now name) n) ⌝ }
     ensures { λ r. ⌜ Put (now (buf .entry)) at (itemLine (now (name .entry)) n) (now (buf .exit)) r ⌝ }
 {
     let end = put_item(buf, at, name, n);
@@ -113,7 +113,7 @@ pub fn item_line(buf: &mut [u8], at: usize, name: &[u8], n: u64) -> usize
 
 // A line of a word, a number, a word and a number, as `TBO 15/2`.
 pub fn pair_line(buf: &mut [u8], at: usize, name: &[u8], m: u64, bar: &[u8], n: u64) -> usize
-    requires { ⌜ Fits (now buf) at (pairLine (now name) m (now bar) n) ⌝ }
+    requires { ⌜ HasRoom (now buf) at (pairLine (now name) m (now bar) n) ⌝ }
     ensures { λ r. ⌜ Put (now (buf .entry)) at (pairLine (now (name .entry)) m (now (bar .entry)) n) (now (buf .exit)) r ⌝ }
 {
     let next = put_item(buf, at, name, m);

@@ -1,1 +1,2 @@
+-- The definitions of the program.
 pub mod Page

@@ -1,12 +1,12 @@
 // Shows the pen at work: lines from the smallest number to the largest, put together as a report's are.
 use libc::STDOUT_FILENO;
-ghost use Rattle.pen.specs.Lines.{Fits, Put};
-ghost use Rattle.pen_main.specs.Page.{row, page};
+ghost use Rattle.pen.specs.Lines.{HasRoom, Put};
+ghost use Rattle.pen_main.specs.Page.{numberRow, page};
 
 // Each number behind a blank: a loop over the pen.
 fn put_row(buf: &mut [u8], at: usize, ns: &[u64]) -> usize
-    requires { ⌜ Fits (now buf) at (row (now ns)) ⌝ }
-    ensures { λ r. ⌜ Put (now (buf .entry)) at (row (now (ns .entry))) (now (buf .exit)) r ⌝ }
+    requires { ⌜ HasRoom (now buf) at (numberRow (now ns)) ⌝ }
+    ensures { λ r. ⌜ Put (now (buf .entry)) at (numberRow (now (ns .entry))) (now (buf .exit)) r ⌝ }
 {
     let mut next = at;
     let mut i = 0;
@@ -19,7 +19,7 @@ fn put_row(buf: &mut [u8], at: usize, ns: &[u64]) -> usize
 
 // The lines, one behind the other.
 fn put_page(buf: &mut [u8], at: usize, ns: &[u64]) -> usize
-    requires { ⌜ Fits (now buf) at (page (now ns)) ⌝ }
+    requires { ⌜ HasRoom (now buf) at (page (now ns)) ⌝ }
     ensures { λ r. ⌜ Put (now (buf .entry)) at (page (now (ns .entry))) (now (buf .exit)) r ⌝ }
 {
     let a = pen::item_line(buf, at, b"TCE ", 0);

@@ -18,7 +18,7 @@ use Rattle.reader.specs.declared.graph.Verdict.{Verdict}
 use Rattle.reader.specs.declared.graph.Verdict.the-variants.{Accepted as Passed, Refused as Stopped}
 use Rattle.reader.proofs.Total.{look-total, lookOf}
 use Rattle.bounds.specs.Reply.{BoundsOf}
-use Rattle.lines.specs.Limits.{Writable}
+use Rattle.lines.specs.helpers.Limits.{Writable}
 use Rattle.report.specs.Reply.{Numbers, Replies, ReportReply, short}
 use Rattle.report.specs.Work.{Waited}
 use Rattle.report.specs.declared.reply.Report.{Report}

@@ -20,7 +20,7 @@ use Rattle.paths.proofs.Bounded.{effort-most}
 use Rattle.paths.proofs.Order.{tbio-most, tt-most}
 use Rattle.fraction.proofs.Rows.{sized-few, sized-short}
 use Rattle.bounds.proofs.Granted.{accepted-passable, accepted-ready}
-use Rattle.lines.specs.Limits.{Limited}
+use Rattle.lines.specs.helpers.Limits.{Printable}
 use Rattle.lines.specs.Text.{reportText}
 use Rattle.report.specs.Reply.{Numbers}
 use Rattle.lines.proofs.FitLaws.{report-fits}
@@ -61,7 +61,7 @@ module _ {g : Graph} (ok : Accepted g) where
   start-wait-small x = wait-most proper 122 8 (omega (arith, ok .limited .operations)) (sized-few (accepted-ready ok .sized)) x
 
   module _ {a b x y z : ℕ} {ring : List ℕ} {wait : ℕ → ℕ} (r : Numbers (shown g) a b x y z ring wait) where
-    limited : Limited (g .operations) (g .edges) a b x y z ring wait
+    limited : Printable (g .operations) (g .edges) a b x y z ring wait
     limited =
         let pass = accepted-passable ok in
         let most : z ≤ 40000000 = omega (arith, r .tce, effort-most pass) in

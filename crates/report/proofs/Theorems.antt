@@ -20,7 +20,7 @@ use Rattle.reader.proofs.Outcomes.{outcome-determined, outcome-label-blind}
 use Rattle.paths.proofs.Order.{tbio-unique, tce-unique, tt-unique}
 use Rattle.circuit.specs.Chosen.{Chosen}
 use Rattle.circuit.proofs.Unique.{chosen-unique}
-use Rattle.pen.proofs.PutLaws.{each-same, put-length, put-unique}
+use Rattle.pen.proofs.PutLaws.{series-same, put-length, put-unique}
 use Rattle.lines.specs.Text.{reportText, waitLine, waitLines, waitOf}
 use Rattle.report.specs.Reply.{Numbers, Replies, ReportReply, lengthOf, refused, reportRows, short, written}
 use Rattle.report.specs.declared.reply.Report.{Report}
@@ -52,7 +52,7 @@ one-text {g} {a} {b} {c = c} {d = d} {ring = ring} {waits = waits} {sums = sums}
     let e₃ = tbio-unique (p .tbio) (q .tbio) in
     let e₄ = tt-unique (p .tt) (q .tt) in
     let e₅ = tce-unique (shown g) (p .tce) (q .tce) in
-    let e₆ = each-same (waitOf waits) (waitOf sums) (3 * g .operations + 2) (λ t l. ap (waitLine t) (wait-sum-unique (p .waits t l) (q .waits t l))) in
+    let e₆ = series-same (waitOf waits) (waitOf sums) (3 * g .operations + 2) (λ t l. ap (waitLine t) (wait-sum-unique (p .waits t l) (q .waits t l))) in
     cc
 
 one-reply : {before after after′ : List ℕ} {o : Outcome} {r s : Report} → ((g : Graph) → o ≡ accepted g → Accepted g) → Replies before o r after → Replies before o s after′ → (r ≡ s) × (after ≡ after′)

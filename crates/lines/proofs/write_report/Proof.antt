@@ -2,7 +2,7 @@
 use native.Mathlib.Omega.{arith}
 use borrow.Author.Needs.{needs}
 use Rattle.marked.specs.Net.{at}
-use Rattle.pen.specs.Lines.{Fits}
+use Rattle.pen.specs.Lines.{HasRoom}
 use Rattle.pen.proofs.PutLaws.{first-room, then-room, then-put}
 use Rattle.lines.specs.Text.{reportText}
 use Rattle.lines.proofs.FitLaws.{writable-fits}
@@ -10,10 +10,18 @@ use Rattle.lines.proofs.write_report.Statement.{statement}
 use Rattle.lines.proofs.write_report.Tie as tie
 
 -- there is room for the report
-fits : (c : tie.After-shared-slice-known2) → let s : tie.Start = c .before .before .before in
-    Fits (s .args .buf .now) 0 (reportText (s .args .n) (s .args .e) (s .args .a) (s .args .b) (s .args .tbio) (s .args .total) (s .args .tce) (s .args .ring .now) (at (s .args .waits .now)))
+fits : (c : tie.After-shared-slice-known2) → let s = c .before .before .before .args in
+    HasRoom (s .buf .now) 0 (reportText (s .n) (s .e) (s .a) (s .b) (s .tbio) (s .total) (s .tce) (s .ring .now) (at (s .waits .now)))
 fits c = let s : tie.Start = c .before .before .before in
-    writable-fits (s .pre) (s .args .tbio) (s .args .total) (s .args .tce) (omega arith) (omega arith) (omega arith) (λ i. omega (arith, c .before .shared-slice-known .given i)) (λ t. omega (arith, c .shared-slice-known2 .given t))
+    writable-fits (s .pre) (s .args .tbio) (s .args .total) (s .args .tce) (omega arith) (omega arith) (omega arith)
+    (λ i. omega (arith, c .before .shared-slice-known .given i)) (λ t. omega (arith, c .shared-slice-known2 .given t))
+
+-- each place seen from behind the next text: the start, behind the head
+abbrev start : tie.After-head-lines → tie.After-shared-slice-known2
+start c = c .before .before
+
+abbrev head : tie.After-wait-lines → tie.After-head-lines
+head c = c .before .before .before .before
 
 head-lines-requires : tie.Need-head-lines-requires
 unfolding reportText
@@ -21,14 +29,12 @@ head-lines-requires c κs = (c .before .before .before .before .pre .counts, fir
 
 wait-lines-requires : tie.Need-wait-lines-requires
 unfolding reportText
-wait-lines-requires c κs = (c .before .before .before .before .before .before .before .before .pre .each, then-room (c .before .before .before .head-lines .ensures) (fits (c .before .before .before .before .before)))
-
-same-length : tie.Need-same-length
-same-length c = search needs
+wait-lines-requires c κs = let h : tie.After-head-lines = c .before .before .before in
+    (start h .before .before .before .pre .each, then-room (h .head-lines .ensures) (fits (start h)))
 
 returns : tie.Need-returns
 unfolding reportText
-returns c = then-put (c .before .before .before .before .before .before .head-lines .ensures) (c .before .before .wait-lines .ensures)
+returns c = let w : tie.After-wait-lines = c .before .before in then-put (head w .head-lines .ensures) (w .wait-lines .ensures)
 
 pub write-report-spec : {M : Type 1} → statement M
-write-report-spec = tie.close (tie.spec head-lines-requires wait-lines-requires same-length returns)
+write-report-spec = tie.close (tie.spec head-lines-requires wait-lines-requires (λ c. search needs) returns)

@@ -10,15 +10,9 @@ slice-write-buf : tie.Need-slice-write-buf
 unfolding lineEnd
 slice-write-buf c = omega arith
 
-add-result : tie.Need-add-result
-add-result c = search needs
-
-same-length : tie.Need-same-length
-same-length c = search needs
-
 returns : tie.Need-returns
 unfolding lineEnd
-returns c = record { place = refl; bytes = refl }
+returns c = record { place = refl; stands = refl }
 
 pub put-newline-spec : {M : Type 1} → statement M
-put-newline-spec = tie.close (tie.spec slice-write-buf add-result same-length returns)
+put-newline-spec = tie.close (tie.spec slice-write-buf (λ c. search needs) (λ c. search needs) returns)

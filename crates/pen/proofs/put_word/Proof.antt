@@ -5,40 +5,25 @@ use native.Mathlib.Omega.{arith}
 use borrow.Author.Needs.{needs}
 use lib.ListN.{length, take}
 use lib.Seq.{take-all}
-use Rattle.pen.specs.Lines.{Fits, Put}
+use Rattle.pen.specs.Lines.{HasRoom, Put}
 use Rattle.pen.proofs.PutLaws.{put-length, put-next}
 use Rattle.pen.proofs.put_word.Statement.{statement}
 use Rattle.pen.proofs.put_word.Tie as tie
 
 abbrev Inv-loop : tie.InvT-loop
-Inv-loop buf₀ at s i₀ buf i = (i ≤ length s) × Fits buf₀ at s × Put buf₀ at (take i s) buf (at + i)
+Inv-loop buf₀ at s i₀ buf i = (i ≤ length s) × HasRoom buf₀ at s × Put buf₀ at (take i s) buf (at + i)
 
 abbrev μ-loop : tie.MeasureT-loop
 μ-loop buf₀ at s i₀ buf i = length s - i
 
 loop-holds : tie.Need-loop-holds Inv-loop μ-loop
-loop-holds c = (omega arith, c .pre, record { place = omega arith; bytes = refl })
-
-shared-slice-read-buf : tie.Need-shared-slice-read-buf Inv-loop μ-loop
-shared-slice-read-buf c = search needs
-
-add-buf : tie.Need-add-buf Inv-loop μ-loop
-add-buf c = search needs
+loop-holds c = (omega arith, c .pre, record { place = omega arith; stands = refl })
 
 slice-write-buf : tie.Need-slice-write-buf Inv-loop μ-loop
 slice-write-buf c = omega (arith, put-length (c .before .before .loop .inv .2))
 
-add-i : tie.Need-add-i Inv-loop μ-loop
-add-i c = search needs
-
-loop-less : tie.Need-loop-less Inv-loop μ-loop
-loop-less c = search needs
-
 loop-again : tie.Need-loop-again Inv-loop μ-loop
-loop-again c = (omega arith, c .before .before .loop .inv .1, put-next (c .before .before .before .args .s .now) (c .before .before .loop .i) (omega arith) (c .before .before .loop .inv .2))
-
-add-result : tie.Need-add-result Inv-loop μ-loop
-add-result c = search needs
+loop-again c = let l = c .before .before in (omega arith, l .loop .inv .1, put-next (l .before .args .s .now) (l .loop .i) (omega arith) (l .loop .inv .2))
 
 same-length : tie.Need-same-length Inv-loop μ-loop
 same-length c = put-length (c .before .loop .inv .2)
@@ -47,4 +32,6 @@ returns : tie.Need-returns Inv-loop μ-loop
 returns c = rw (take-all (c .before .loop .i) (c .before .before .args .s .now) (omega arith)) at (c .before .loop .inv .2)
 
 pub put-word-spec : {M : Type 1} → statement M
-put-word-spec = tie.close (tie.spec Inv-loop μ-loop loop-holds shared-slice-read-buf add-buf slice-write-buf add-i loop-less loop-again add-result same-length returns)
+put-word-spec = tie.close (tie.spec
+    Inv-loop μ-loop loop-holds (λ c. search needs) (λ c. search needs) slice-write-buf (λ c. search needs) (λ c. search needs) loop-again
+    (λ c. search needs) same-length returns)

@@ -7,19 +7,16 @@ use lib.Seq.{length-take-le}
 use Rattle.pen.specs.Lines.{lineEnd, item, itemLine, pairLine}
 use Rattle.pen.proofs.DigitLaws.{digits-short}
 use Rattle.pen.proofs.PutLaws.{put-within}
-use Rattle.pen_main.specs.Page.{row, page}
+use Rattle.pen_main.specs.Page.{numberRow, page}
 use Rattle.pen_main.proofs.main.Statement.{statement}
 use Rattle.pen_main.proofs.main.Tie as tie
 
-slice-aggregate-put-page : tie.Need-slice-aggregate-put-page
-slice-aggregate-put-page c = search needs
-
-slice-aggregate-put-page-2 : tie.Need-slice-aggregate-put-page-2
-slice-aggregate-put-page-2 c = search needs
-
 put-page-requires : tie.Need-put-page-requires
-unfolding page row pairLine itemLine item lineEnd
-put-page-requires c κs = record { room = simp length-append (omega (arith, digits-short 0 0 (omega arith), digits-short 0 9 (omega arith), digits-short 1 10 (omega arith), digits-short 19 18446744073709551615 (omega arith))) }
+unfolding page numberRow pairLine itemLine item lineEnd
+put-page-requires c κs = record {
+  room = simp length-append
+      (omega (arith, digits-short 0 0 (omega arith), digits-short 0 9 (omega arith), digits-short 1 10 (omega arith), digits-short 19 18446744073709551615 (omega arith)));
+}
 
 array-share-prefix-buf : tie.Need-array-share-prefix-buf
 array-share-prefix-buf c = put-within (c .before .put-page .ensures) (put-page-requires (c .before .before) (c .before .put-page .lifetimes))
@@ -27,11 +24,7 @@ array-share-prefix-buf c = put-within (c .before .put-page .ensures) (put-page-r
 slice-aggregate-write-all : tie.Need-slice-aggregate-write-all
 slice-aggregate-write-all c = sym (length-take-le _ _ (array-share-prefix-buf (c .before)))
 
-write-all-requires : tie.Need-write-all-requires
-write-all-requires c κs = search needs
-
-returns : tie.Need-returns
-returns c = search needs
-
 pub main-spec : {M : Type 1} → statement M
-main-spec = tie.close (tie.spec slice-aggregate-put-page slice-aggregate-put-page-2 put-page-requires array-share-prefix-buf slice-aggregate-write-all write-all-requires returns)
+main-spec = tie.close (tie.spec
+    (λ c. search needs) (λ c. search needs) put-page-requires array-share-prefix-buf slice-aggregate-write-all (λ c κs. search needs)
+    (λ c. search needs))

@@ -5,55 +5,54 @@ use Rattle.pen_main.specs.Page.{page}
 use Rattle.pen_main.proofs.put_page.Statement.{statement}
 use Rattle.pen_main.proofs.put_page.Tie as tie
 
-slice-aggregate-item-line : tie.Need-slice-aggregate-item-line
-slice-aggregate-item-line c = search needs
+-- each place seen from behind the next put: the start, behind the first line, behind the second, behind the word, behind the row
+abbrev start : tie.After-item-line → tie.Start
+start c = c .before .before .before .before .before
+
+abbrev tce : tie.After-pair-line → tie.After-item-line
+tce c =
+    let s : tie.After-slice-known2 = c .before .before .before .before in
+    s .before .before
+
+abbrev tbo : tie.After-put-word → tie.After-pair-line
+tbo c = c .before .before .before .before .before
+
+abbrev word : tie.After-put-row → tie.After-put-word
+word c = c .before .before .before .before
+
+abbrev row : tie.After-end-line → tie.After-put-row
+row c = c .before .before .before .before
 
 item-line-requires : tie.Need-item-line-requires
 unfolding page
 item-line-requires c κs = first-room _ (c .before .before .before .before .pre)
 
-slice-aggregate-pair-line : tie.Need-slice-aggregate-pair-line
-slice-aggregate-pair-line c = search needs
-
-slice-aggregate-pair-line-2 : tie.Need-slice-aggregate-pair-line-2
-slice-aggregate-pair-line-2 c = search needs
-
 pair-line-requires : tie.Need-pair-line-requires
 unfolding page
-pair-line-requires c κs = first-room _ (then-room (c .before .before .before .before .before .item-line .ensures) (c .before .before .before .before .before .before .before .before .before .before .pre))
-
-slice-aggregate-put-word : tie.Need-slice-aggregate-put-word
-slice-aggregate-put-word c = search needs
+pair-line-requires c κs = let i : tie.After-item-line = c .before .before .before .before .before in first-room _ (then-room (i .item-line .ensures) (start i .pre))
 
 put-word-requires : tie.Need-put-word-requires
 unfolding page
-put-word-requires c κs = first-room _
-    (then-room (c .before .before .before .before .pair-line .ensures)
-    (then-room (c .before .before .before .before .before .before .before .before .before .before .item-line .ensures) (c .before .before .before .before .before .before .before .before .before .before .before .before .before .before .before .pre)))
+put-word-requires c κs = let p : tie.After-pair-line = c .before .before .before .before in let i = tce p in
+    first-room _ (then-room (p .pair-line .ensures) (then-room (i .item-line .ensures) (start i .pre)))
 
 put-row-requires : tie.Need-put-row-requires
 unfolding page
-put-row-requires c κs = first-room _
-    (then-room (c .before .before .before .put-word .ensures)
-    (then-room (c .before .before .before .before .before .before .before .before .pair-line .ensures)
-    (then-room (c .before .before .before .before .before .before .before .before .before .before .before .before .before .before .item-line .ensures) (c .before .before .before .before .before .before .before .before .before .before .before .before .before .before .before .before .before .before .before .pre))))
+put-row-requires c κs = let w : tie.After-put-word = c .before .before .before in let p = tbo w in let i = tce p in
+    first-room _ (then-room (w .put-word .ensures) (then-room (p .pair-line .ensures) (then-room (i .item-line .ensures) (start i .pre))))
 
 end-line-requires : tie.Need-end-line-requires
 unfolding page
-end-line-requires c κs = then-room (c .before .before .before .put-row .ensures)
-    (then-room (c .before .before .before .before .before .before .before .put-word .ensures)
-    (then-room (c .before .before .before .before .before .before .before .before .before .before .before .before .pair-line .ensures)
-    (then-room (c .before .before .before .before .before .before .before .before .before .before .before .before .before .before .before .before .before .before .item-line .ensures) (c .before .before .before .before .before .before .before .before .before .before .before .before .before .before .before .before .before .before .before .before .before .before .before .pre))))
-
-same-length : tie.Need-same-length
-same-length c = search needs
+end-line-requires c κs = let r : tie.After-put-row = c .before .before .before in let w = word r in let p = tbo w in let i = tce p in
+    then-room (r .put-row .ensures) (then-room (w .put-word .ensures) (then-room (p .pair-line .ensures) (then-room (i .item-line .ensures) (start i .pre))))
 
 returns : tie.Need-returns
 unfolding page
-returns c = then-put (c .before .before .before .before .before .before .before .before .before .before .before .before .before .before .before .before .before .before .before .before .before .item-line .ensures)
-    (then-put (c .before .before .before .before .before .before .before .before .before .before .before .before .before .before .before .pair-line .ensures)
-    (then-put (c .before .before .before .before .before .before .before .before .before .before .put-word .ensures)
-    (then-put (c .before .before .before .before .before .before .put-row .ensures) (c .before .before .end-line .ensures))))
+returns c = let e : tie.After-end-line = c .before .before in let r = row e in let w = word r in let p = tbo w in
+    then-put (tce p .item-line .ensures)
+    (then-put (p .pair-line .ensures) (then-put (w .put-word .ensures) (then-put (r .put-row .ensures) (e .end-line .ensures))))
 
 pub put-page-spec : {M : Type 1} → statement M
-put-page-spec = tie.close (tie.spec slice-aggregate-item-line item-line-requires slice-aggregate-pair-line slice-aggregate-pair-line-2 pair-line-requires slice-aggregate-put-word put-word-requires put-row-requires end-line-requires same-length returns)
+put-page-spec = tie.close (tie.spec
+    (λ c. search needs) item-line-requires (λ c. search needs) (λ c. search needs) pair-line-requires (λ c. search needs) put-word-requires
+    put-row-requires end-line-requires (λ c. search needs) returns)

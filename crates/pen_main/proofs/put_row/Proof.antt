@@ -4,7 +4,7 @@ use native.Mathlib.Omega.{arith}
 use borrow.Author.Needs.{needs}
 use lib.ListN.{length}
 use Rattle.pen.proofs.PutLaws.{Putting, putting-start, putting-room, putting-on, putting-end, put-length}
-use Rattle.pen_main.specs.Page.{blankItem, row}
+use Rattle.pen_main.specs.Page.{blankItem, numberRow}
 use Rattle.pen_main.proofs.put_row.Statement.{statement}
 use Rattle.pen_main.proofs.put_row.Tie as tie
 
@@ -15,37 +15,27 @@ abbrev μ-loop : tie.MeasureT-loop
 μ-loop buf₀ at ns next₀ i₀ t6 buf next i = length ns - i
 
 loop-holds : tie.Need-loop-holds Inv-loop μ-loop
-unfolding row
+unfolding numberRow
 loop-holds c = putting-start (c .before .before .pre)
 
-slice-aggregate-put-item : tie.Need-slice-aggregate-put-item Inv-loop μ-loop
-slice-aggregate-put-item c = search needs
-
-mul-put-item : tie.Need-mul-put-item Inv-loop μ-loop
-mul-put-item c = search needs
-
-shared-slice-read-put-item : tie.Need-shared-slice-read-put-item Inv-loop μ-loop
-shared-slice-read-put-item c = search needs
-
 put-item-requires : tie.Need-put-item-requires Inv-loop μ-loop
-unfolding row
+unfolding numberRow
 put-item-requires c κs = putting-room (c .before .before .before .before .loop .inv) (omega arith)
 
-add-i : tie.Need-add-i Inv-loop μ-loop
-add-i c = search needs
-
-loop-less : tie.Need-loop-less Inv-loop μ-loop
-loop-less c = search needs
-
 loop-again : tie.Need-loop-again Inv-loop μ-loop
-loop-again c = putting-on (c .before .before .before .before .before .before .before .loop .inv) (omega arith) (c .before .before .put-item .ensures)
+loop-again c =
+    let item = c .before .before in
+    let turn = item .before .before .before .before .before .loop in
+    putting-on (turn .inv) (omega arith) (item .put-item .ensures)
 
 same-length : tie.Need-same-length Inv-loop μ-loop
 same-length c = put-length (c .before .loop .inv .put)
 
 returns : tie.Need-returns Inv-loop μ-loop
-unfolding row
+unfolding numberRow
 returns c = putting-end (c .before .loop .inv) (omega arith)
 
 pub put-row-spec : {M : Type 1} → statement M
-put-row-spec = tie.close (tie.spec Inv-loop μ-loop loop-holds slice-aggregate-put-item mul-put-item shared-slice-read-put-item put-item-requires add-i loop-less loop-again same-length returns)
+put-row-spec = tie.close (tie.spec
+    Inv-loop μ-loop loop-holds (λ c. search needs) (λ c. search needs) (λ c. search needs) put-item-requires (λ c. search needs) (λ c. search needs)
+    loop-again same-length returns)

@@ -5,49 +5,43 @@ use Rattle.lines.specs.Text.{boundLines}
 use Rattle.lines.proofs.head.bound_lines.Statement.{statement}
 use Rattle.lines.proofs.head.bound_lines.Tie as tie
 
-slice-aggregate-pair-line : tie.Need-slice-aggregate-pair-line
-slice-aggregate-pair-line c = search needs
+-- each place seen from behind the next line: the start, behind TBO, behind TBIO, behind TT
+abbrev start : tie.After-pair-line → tie.Start
+start c = c .before .before .before .before .before
 
-slice-aggregate-pair-line-2 : tie.Need-slice-aggregate-pair-line-2
-slice-aggregate-pair-line-2 c = search needs
+abbrev tbo : tie.After-item-line → tie.After-pair-line
+tbo c = c .before .before .before .before .before
+
+abbrev tbio : tie.After-item-line2 → tie.After-item-line
+tbio c = c .before .before .before .before .before
+
+abbrev total : tie.After-item-line3 → tie.After-item-line2
+total c = c .before .before .before .before .before
 
 pair-line-requires : tie.Need-pair-line-requires
 unfolding boundLines
 pair-line-requires c κs = first-room _ (c .before .before .before .before .pre)
 
-slice-aggregate-item-line : tie.Need-slice-aggregate-item-line
-slice-aggregate-item-line c = search needs
-
 item-line-requires : tie.Need-item-line-requires
 unfolding boundLines
-item-line-requires c κs = first-room _ (then-room (c .before .before .before .before .pair-line .ensures) (c .before .before .before .before .before .before .before .before .before .pre))
-
-slice-aggregate-item-line-2 : tie.Need-slice-aggregate-item-line-2
-slice-aggregate-item-line-2 c = search needs
+item-line-requires c κs = let b : tie.After-pair-line = c .before .before .before .before in first-room _ (then-room (b .pair-line .ensures) (start b .pre))
 
 item-line-requires-2 : tie.Need-item-line-requires-2
 unfolding boundLines
-item-line-requires-2 c κs = first-room _
-    (then-room (c .before .before .before .before .item-line .ensures)
-    (then-room (c .before .before .before .before .before .before .before .before .before .pair-line .ensures) (c .before .before .before .before .before .before .before .before .before .before .before .before .before .before .pre)))
-
-slice-aggregate-item-line-3 : tie.Need-slice-aggregate-item-line-3
-slice-aggregate-item-line-3 c = search needs
+item-line-requires-2 c κs = let i : tie.After-item-line = c .before .before .before .before in let b = tbo i in
+    first-room _ (then-room (i .item-line .ensures) (then-room (b .pair-line .ensures) (start b .pre)))
 
 item-line-requires-3 : tie.Need-item-line-requires-3
 unfolding boundLines
-item-line-requires-3 c κs = then-room (c .before .before .before .before .item-line2 .ensures)
-    (then-room (c .before .before .before .before .before .before .before .before .before .item-line .ensures)
-    (then-room (c .before .before .before .before .before .before .before .before .before .before .before .before .before .before .pair-line .ensures) (c .before .before .before .before .before .before .before .before .before .before .before .before .before .before .before .before .before .before .before .pre)))
-
-same-length : tie.Need-same-length
-same-length c = search needs
+item-line-requires-3 c κs = let t : tie.After-item-line2 = c .before .before .before .before in let i = tbio t in let b = tbo i in
+    then-room (t .item-line2 .ensures) (then-room (i .item-line .ensures) (then-room (b .pair-line .ensures) (start b .pre)))
 
 returns : tie.Need-returns
 unfolding boundLines
-returns c = then-put (c .before .before .before .before .before .before .before .before .before .before .before .before .before .before .before .before .before .pair-line .ensures)
-    (then-put (c .before .before .before .before .before .before .before .before .before .before .before .before .item-line .ensures)
-    (then-put (c .before .before .before .before .before .before .before .item-line2 .ensures) (c .before .before .item-line3 .ensures)))
+returns c = let e : tie.After-item-line3 = c .before .before in let t = total e in let i = tbio t in
+    then-put (tbo i .pair-line .ensures) (then-put (i .item-line .ensures) (then-put (t .item-line2 .ensures) (e .item-line3 .ensures)))
 
 pub bound-lines-spec : {M : Type 1} → statement M
-bound-lines-spec = tie.close (tie.spec slice-aggregate-pair-line slice-aggregate-pair-line-2 pair-line-requires slice-aggregate-item-line item-line-requires slice-aggregate-item-line-2 item-line-requires-2 slice-aggregate-item-line-3 item-line-requires-3 same-length returns)
+bound-lines-spec = tie.close (tie.spec
+    (λ c. search needs) (λ c. search needs) pair-line-requires (λ c. search needs) item-line-requires (λ c. search needs) item-line-requires-2
+    (λ c. search needs) item-line-requires-3 (λ c. search needs) returns)

@@ -5,51 +5,35 @@ use Rattle.lines.specs.Text.{opsLine}
 use Rattle.lines.proofs.head.ops_line.Statement.{statement}
 use Rattle.lines.proofs.head.ops_line.Tie as tie
 
-slice-aggregate-put-item : tie.Need-slice-aggregate-put-item
-slice-aggregate-put-item c = search needs
+-- each place seen from behind the next put: the start, behind the operations, behind the edges
+abbrev start : tie.After-put-item → tie.Start
+start c = c .before .before .before .before
+
+abbrev operations : tie.After-put-item2 → tie.After-put-item
+operations c = c .before .before .before .before .before
+
+abbrev edges : tie.After-pair-line-arg3 → tie.After-put-item2
+edges c = c .before .before .before .before .before
 
 put-item-requires : tie.Need-put-item-requires
 unfolding opsLine
 put-item-requires c κs = first-room _ (c .before .before .before .pre .1)
 
-slice-aggregate-put-item-2 : tie.Need-slice-aggregate-put-item-2
-slice-aggregate-put-item-2 c = search needs
-
 put-item-requires-2 : tie.Need-put-item-requires-2
 unfolding opsLine
-put-item-requires-2 c κs = first-room _ (then-room (c .before .before .before .before .put-item .ensures) (c .before .before .before .before .before .before .before .before .pre .1))
-
-slice-aggregate-pair-line : tie.Need-slice-aggregate-pair-line
-slice-aggregate-pair-line c = search needs
-
-mul-pair-line : tie.Need-mul-pair-line
-mul-pair-line c = search needs
-
-add-pair-line : tie.Need-add-pair-line
-add-pair-line c = search needs
-
-slice-aggregate-pair-line-2 : tie.Need-slice-aggregate-pair-line-2
-slice-aggregate-pair-line-2 c = search needs
-
-mul-pair-line-2 : tie.Need-mul-pair-line-2
-mul-pair-line-2 c = search needs
-
-mul-pair-line-3 : tie.Need-mul-pair-line-3
-mul-pair-line-3 c = search needs
-
-add-pair-line-2 : tie.Need-add-pair-line-2
-add-pair-line-2 c = search needs
+put-item-requires-2 c κs = let n : tie.After-put-item = c .before .before .before .before in first-room _ (then-room (n .put-item .ensures) (start n .pre .1))
 
 pair-line-requires : tie.Need-pair-line-requires
 unfolding opsLine
-pair-line-requires c κs = then-room (c .before .before .before .before .before .put-item2 .ensures) (then-room (c .before .before .before .before .before .before .before .before .before .before .put-item .ensures) (c .before .before .before .before .before .before .before .before .before .before .before .before .before .before .pre .1))
-
-same-length : tie.Need-same-length
-same-length c = search needs
+pair-line-requires c κs = let n = operations (edges c) in
+    then-room (edges c .put-item2 .ensures) (then-room (n .put-item .ensures) (start n .pre .1))
 
 returns : tie.Need-returns
 unfolding opsLine
-returns c = then-put (c .before .before .before .before .before .before .before .before .before .before .before .before .before .put-item .ensures) (then-put (c .before .before .before .before .before .before .before .before .put-item2 .ensures) (c .before .before .pair-line .ensures))
+returns c = let l : tie.After-pair-line = c .before .before in let e = edges (l .before) in
+    then-put (operations e .put-item .ensures) (then-put (e .put-item2 .ensures) (l .pair-line .ensures))
 
 pub ops-line-spec : {M : Type 1} → statement M
-ops-line-spec = tie.close (tie.spec slice-aggregate-put-item put-item-requires slice-aggregate-put-item-2 put-item-requires-2 slice-aggregate-pair-line mul-pair-line add-pair-line slice-aggregate-pair-line-2 mul-pair-line-2 mul-pair-line-3 add-pair-line-2 pair-line-requires same-length returns)
+ops-line-spec = tie.close (tie.spec
+    (λ c. search needs) put-item-requires (λ c. search needs) put-item-requires-2 (λ c. search needs) (λ c. search needs) (λ c. search needs)
+    (λ c. search needs) (λ c. search needs) (λ c. search needs) (λ c. search needs) pair-line-requires (λ c. search needs) returns)

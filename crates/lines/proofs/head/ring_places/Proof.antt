@@ -18,23 +18,14 @@ loop-holds : tie.Need-loop-holds Inv-loop μ-loop
 unfolding ringPlaces
 loop-holds c = putting-start (c .before .before .pre)
 
-mul-ring-place : tie.Need-mul-ring-place Inv-loop μ-loop
-mul-ring-place c = search needs
-
-shared-slice-read-ring-place : tie.Need-shared-slice-read-ring-place Inv-loop μ-loop
-shared-slice-read-ring-place c = search needs
-
 ring-place-requires : tie.Need-ring-place-requires Inv-loop μ-loop
 ring-place-requires c κs = putting-room (c .before .before .before .loop .inv) (omega arith)
 
-add-i : tie.Need-add-i Inv-loop μ-loop
-add-i c = search needs
-
-loop-less : tie.Need-loop-less Inv-loop μ-loop
-loop-less c = search needs
-
 loop-again : tie.Need-loop-again Inv-loop μ-loop
-loop-again c = putting-on (c .before .before .before .before .before .before .loop .inv) (omega arith) (c .before .before .ring-place .ensures)
+loop-again c =
+    let place = c .before .before in
+    let turn = place .before .before .before .before .loop in
+    putting-on (turn .inv) (omega arith) (place .ring-place .ensures)
 
 same-length : tie.Need-same-length Inv-loop μ-loop
 same-length c = put-length (c .before .loop .inv .put)
@@ -44,4 +35,6 @@ unfolding ringPlaces
 returns c = putting-end (c .before .loop .inv) (omega arith)
 
 pub ring-places-spec : {M : Type 1} → statement M
-ring-places-spec = tie.close (tie.spec Inv-loop μ-loop loop-holds mul-ring-place shared-slice-read-ring-place ring-place-requires add-i loop-less loop-again same-length returns)
+ring-places-spec = tie.close (tie.spec
+    Inv-loop μ-loop loop-holds (λ c. search needs) (λ c. search needs) ring-place-requires (λ c. search needs) (λ c. search needs) loop-again
+    same-length returns)

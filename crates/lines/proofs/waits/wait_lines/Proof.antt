@@ -18,29 +18,14 @@ loop-holds : tie.Need-loop-holds Inv-loop μ-loop
 unfolding waitLines
 loop-holds c = putting-start (c .before .before .pre .1)
 
-mul-loop : tie.Need-mul-loop Inv-loop μ-loop
-mul-loop c = search needs
-
-add-loop : tie.Need-add-loop Inv-loop μ-loop
-add-loop c = search needs
-
-mul-wait-line : tie.Need-mul-wait-line Inv-loop μ-loop
-mul-wait-line c = search needs
-
-shared-slice-read-wait-line : tie.Need-shared-slice-read-wait-line Inv-loop μ-loop
-shared-slice-read-wait-line c = search needs
-
 wait-line-requires : tie.Need-wait-line-requires Inv-loop μ-loop
 wait-line-requires c κs = putting-room (c .before .before .before .loop .inv) (omega arith)
 
-add-t : tie.Need-add-t Inv-loop μ-loop
-add-t c = search needs
-
-loop-less : tie.Need-loop-less Inv-loop μ-loop
-loop-less c = search needs
-
 loop-again : tie.Need-loop-again Inv-loop μ-loop
-loop-again c = putting-on (c .before .before .before .before .before .before .loop .inv) (omega arith) (c .before .before .wait-line .ensures)
+loop-again c =
+    let line = c .before .before in
+    let turn = line .before .before .before .before .loop in
+    putting-on (turn .inv) (omega arith) (line .wait-line .ensures)
 
 same-length : tie.Need-same-length Inv-loop μ-loop
 same-length c = put-length (c .before .loop .inv .put)
@@ -50,4 +35,6 @@ unfolding waitLines
 returns c = putting-end (c .before .loop .inv) (omega arith)
 
 pub wait-lines-spec : {M : Type 1} → statement M
-wait-lines-spec = tie.close (tie.spec Inv-loop μ-loop loop-holds mul-loop add-loop mul-wait-line shared-slice-read-wait-line wait-line-requires add-t loop-less loop-again same-length returns)
+wait-lines-spec = tie.close (tie.spec
+    Inv-loop μ-loop loop-holds (λ c. search needs) (λ c. search needs) (λ c. search needs) (λ c. search needs) wait-line-requires (λ c. search needs)
+    (λ c. search needs) loop-again same-length returns)

@@ -5,13 +5,13 @@ use lib.ListN.{length}
 use Rattle.marked.specs.Net.{at}
 
 -- The counts of a graph.
-pub record Counts (n e : ℕ) : Type 0 where
+pub record CountsFit (n e : ℕ) : Type 0 where
   pub operations : n ≤ 40
   pub edges : e ≤ 128
 
 -- The numbers of a report whose text has at most 4,096 bytes.
-pub record Limited (n e a b x y z : ℕ) (ring : List ℕ) (waits : ℕ → ℕ) : Type 0 where
-  pub counts : Counts n e
+pub record Printable (n e a b x y z : ℕ) (ring : List ℕ) (waits : ℕ → ℕ) : Type 0 where
+  pub counts : CountsFit n e
   pub numerator : a < 10 ^ 10
   pub denominator : b < 10 ^ 10
   pub tbio : x < 10 ^ 10
@@ -21,10 +21,11 @@ pub record Limited (n e a b x y z : ℕ) (ring : List ℕ) (waits : ℕ → ℕ)
   pub places : (i : ℕ) → i < length ring → at ring i < 10 ^ 5
   pub waited : (t : ℕ) → t < 3 * n + 2 → waits t < 10 ^ 10
 
--- What remains to be asked where 16 and 32 bits limit the other numbers: counts, TBO, no more places than transitions, a wait for each transition, and the buffer's 4,096 bytes.
+-- What remains to be asked where 16 and 32 bits limit the other numbers: counts, TBO, no more places than transitions, a wait for each
+-- transition, and the buffer's 4,096 bytes.
 pub record Writable (buf : List ℕ) (n e a b : ℕ) (ring waits : List ℕ) : Type 0 where
   pub room : 4096 ≤ length buf
-  pub counts : Counts n e
+  pub counts : CountsFit n e
   pub numerator : a < 10 ^ 10
   pub denominator : b < 10 ^ 10
   pub circuit : length ring ≤ 122

@@ -1,0 +1,2 @@
+-- Helper words of the pen: no contract needs them.
+pub mod Reading
