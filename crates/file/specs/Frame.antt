@@ -6,6 +6,7 @@ use mathlib.Core.List.{List, [], _++_, _∷_}
 use lib.ListN.{length, getD}
 use Rattle.refusal.specs.Asking.{Ask, asked}
 use Rattle.little.specs.Little.{byteAt}
+use Rattle.little.specs.Text.{bytes}
 use Rattle.net.specs.Limits.{Counted}
 use Rattle.net.specs.Rules.{graphRows}
 use Rattle.file.specs.Limits.{FileLength, edgeBytes, operationBytes}
@@ -17,7 +18,7 @@ Sized f = FileLength (length f)
 
 -- The bytes AMG1.
 abbrev pub magic : List ℕ
-magic = 65 ∷ 77 ∷ 71 ∷ 49 ∷ []
+magic = bytes "AMG1"
 
 -- The file ends with them.
 abbrev pub EndsWithMagic : List ℕ → Type 0
