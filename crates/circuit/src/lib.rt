@@ -2,7 +2,6 @@
 mod write;
 
 use net::EDGES;
-use net::OPERATIONS;
 use net::PLACES;
 use net::TRANSITIONS;
 use tight::LOOSE;
@@ -19,10 +18,10 @@ ghost use Rattle.circuit.specs.Chosen.{Handed};
 pub fn choose(
     n: usize,
     e: usize,
-    times: &[u32; OPERATIONS],
     from: &[u8; EDGES],
     to: &[u8; EDGES],
-    mark: &[u8; EDGES],
+    marking: &[u8; PLACES],
+    times: &[u32; TRANSITIONS],
     a: u64,
     b: u64,
     d: &[u64; TRANSITIONS],
@@ -42,10 +41,10 @@ pub fn choose(
     tight::list_tight(
         n,
         e,
-        times,
         from,
         to,
-        mark,
+        marking,
+        times,
         a,
         b,
         d,
