@@ -9,8 +9,8 @@ ghost use Prim.Native.Nat.{_+_, _*_, _≤_};
 ghost use lib.ListN.{length};
 ghost use Rattle.net.specs.Plan.{rows};
 ghost use Rattle.net.specs.Graph.{netOf, startOf};
-ghost use Rattle.fraction.specs.Rows.{Sized};
-ghost use Rattle.tbo.specs.Bounded.{Bounded};
+ghost use Rattle.fraction.specs.helpers.Loaded.{Sized};
+ghost use Rattle.tbo.specs.helpers.LargestBy.{LargestBy};
 ghost use Rattle.circuit.specs.Chosen.{Handed};
 
 // Writes the chosen circuit into ring, in travel order. The answer is how many places it has.
