@@ -9,9 +9,9 @@ use lib.ListN.{length}
 use Rattle.marked.specs.Lists.{All, Distinct}
 use Rattle.marked.specs.Net.{Net, Proper, Walk, at, go, stop}
 use Rattle.marked.specs.Circuits.{froms}
-use Rattle.net.specs.Plan.{Plan}
+use Rattle.net.specs.Limits.{mostPlaces, mostTransitions}
 use Rattle.net.specs.Ends.{dstOf, srcOf}
-use Rattle.net.specs.Graph.{netOf}
+use Rattle.fraction.specs.helpers.Loaded.{Loaded}
 use Rattle.net.specs.Good.{Wired}
 use Rattle.net.proofs.Shapes.{dst-back, dst-empty, dst-full, dst-op, src-empty, src-full, src-op}
 use Rattle.tight.specs.helpers.Lists.{Headed, Threaded, Listed, Listing, Next, TightIn, drawn}
@@ -90,11 +90,11 @@ module _ {g : Loaded} {a b : ℕ} {d head next src dst : List ℕ} (l : Listing 
     none = λ p i j t e. let h : p < g .net .places = omega (arith, n .most) in n .none p i j (onto .fits p h t) (sym (onto .leaves p h t) ∙ e);
   }
 
-  pub headed : length head ≡ 122 → Headed (g .net .transitions) (g .net .places) head src dst
+  pub headed : length head ≡ mostTransitions → Headed (g .net .transitions) (g .net .places) head src dst
   headed o = record { heads = λ v h. next-drawn (l .heads v h); low = l .low; long = o }
 
-  pub linked : Proper (g .net) → g .net .transitions ≤ 122 → g .net .places ≤ 376 → ((p : ℕ) → p < g .net .places → g .net .src p ≢ g .net .dst p) → Threaded (g .net .transitions) (g .net .places) next src dst
-  linked ok few many far = record {
+  pub threaded : Proper (g .net) → g .net .transitions ≤ mostTransitions → g .net .places ≤ mostPlaces → ((p : ℕ) → p < g .net .places → g .net .src p ≢ g .net .dst p) → Threaded (g .net .transitions) (g .net .places) next src dst
+  threaded ok few many far = record {
     few = few;
     many = many;
     nexts = λ q h t. subst (λ (v : ℕ). Next (drawn (g .net .transitions) (g .net .places) src dst) (Listed dst) v (q + 1) (at next q)) (sym (onto .leaves q h t)) (next-drawn (l .nexts q (omega arith) h (onto .fits q h t)));
