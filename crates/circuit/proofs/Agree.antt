@@ -9,13 +9,13 @@ use lib.ListN.{length}
 use Rattle.marked.specs.Lists.{All, Distinct}
 use Rattle.marked.specs.Net.{Net, Proper, Walk, at, go, stop}
 use Rattle.marked.specs.Circuits.{froms}
-use Rattle.net.specs.Plan.{Plan}
+use Rattle.net.specs.Limits.{mostPlaces, mostTransitions}
 use Rattle.net.specs.Ends.{dstOf, srcOf}
-use Rattle.net.specs.Graph.{netOf}
-use Rattle.net.specs.Valid.{Valid}
+use Rattle.fraction.specs.helpers.Loaded.{Loaded}
+use Rattle.net.specs.Good.{Wired}
 use Rattle.net.proofs.Shapes.{dst-back, dst-empty, dst-full, dst-op, src-empty, src-full, src-op}
-use Rattle.tight.specs.Lists.{Headed, Linked, Listed, Listing, Next, TightIn, drawn}
-use Rattle.search.specs.Ways.{Cut, First, Rival}
+use Rattle.tight.specs.helpers.Lists.{Headed, Threaded, Listed, Listing, Next, TightIn, drawn}
+use Rattle.search.specs.helpers.Ways.{Cut, First, Rival}
 
 -- Places of T in g are places of U in h, with the same ends.
 pub record Carries (g h : Net) (T U : ℕ → Type 0) : Type 0 where
@@ -54,7 +54,7 @@ module _ {g h : Net} {T U : ℕ → Type 0} (m : Carries g h T U) (n : Carries h
   cut-move c = λ qs r. c qs (rival-move n r)
 
 -- No place of the computational graph leads to where it leaves.
-pub ends-apart : {n e : ℕ} {f t : List ℕ} → Valid n e f t → (p : ℕ) → p < 3 * n + 2 * e → srcOf n (at f) (at t) p ≢ dstOf n (at f) (at t) p
+pub ends-apart : {n e : ℕ} {f t : List ℕ} → Wired n e f t → (p : ℕ) → p < 3 * n + 2 * e → srcOf n (at f) (at t) p ≢ dstOf n (at f) (at t) p
 ends-apart {n} {e} {f} {t} ok p h z = elim (decLt p (3 * n)) [
   | yes k ↦ elim (ℕ-discrete (p % 3) 2) [
     | yes j ↦ omega (arith, src-op n (at f) (at t) p k, dst-back n (at f) (at t) p k j)
@@ -66,8 +66,8 @@ ends-apart {n} {e} {f} {t} ok p h z = elim (decLt p (3 * n)) [
   ]
 ]
 
-module _ {g : Plan} {a b : ℕ} {d head next src dst : List ℕ} (l : Listing g a b d 0 head next src dst) where
-  pub onto : Carries (drawn (netOf g .transitions) (netOf g .places) src dst) (netOf g) (Listed dst) (TightIn g a b d)
+module _ {g : Loaded} {a b : ℕ} {d head next src dst : List ℕ} (l : Listing g a b d 0 head next src dst) where
+  pub onto : Carries (drawn (g .net .transitions) (g .net .places) src dst) (g .net) (Listed dst) (TightIn g a b d)
   onto = record {
     place = λ q h t. h;
     fits = λ q h t. l .tight q (omega arith) h t .0;
@@ -75,7 +75,7 @@ module _ {g : Plan} {a b : ℕ} {d head next src dst : List ℕ} (l : Listing g 
     enters = λ q h t. l .tight q (omega arith) h t .2;
   }
 
-  pub into : Carries (netOf g) (drawn (netOf g .transitions) (netOf g .places) src dst) (TightIn g a b d) (Listed dst)
+  pub into : Carries (g .net) (drawn (g .net .transitions) (g .net .places) src dst) (TightIn g a b d) (Listed dst)
   into = record {
     place = λ q h t. h;
     fits = λ q h t. l .listed q (omega arith) h t;
@@ -83,21 +83,21 @@ module _ {g : Plan} {a b : ℕ} {d head next src dst : List ℕ} (l : Listing g 
     enters = λ q h t. sym (l .tight q (omega arith) h (l .listed q (omega arith) h t) .2);
   }
 
-  next-drawn : {v lo q : ℕ} → Next (netOf g) (TightIn g a b d) v lo q → Next (drawn (netOf g .transitions) (netOf g .places) src dst) (Listed dst) v lo q
+  next-drawn : {v lo q : ℕ} → Next (g .net) (TightIn g a b d) v lo q → Next (drawn (g .net .transitions) (g .net .places) src dst) (Listed dst) v lo q
   next-drawn {v} {lo} {q} n = record {
     most = n .most;
     fits = λ h. let o = n .fits h in (o .0, into .fits q h (o .1), sym (into .leaves q h (o .1)) ∙ o .2);
-    none = λ p i j t e. let h : p < netOf g .places = omega (arith, n .most) in n .none p i j (onto .fits p h t) (sym (onto .leaves p h t) ∙ e);
+    none = λ p i j t e. let h : p < g .net .places = omega (arith, n .most) in n .none p i j (onto .fits p h t) (sym (onto .leaves p h t) ∙ e);
   }
 
-  pub headed : length head ≡ 122 → Headed (netOf g .transitions) (netOf g .places) head src dst
+  pub headed : length head ≡ mostTransitions → Headed (g .net .transitions) (g .net .places) head src dst
   headed o = record { heads = λ v h. next-drawn (l .heads v h); low = l .low; long = o }
 
-  pub linked : Proper (netOf g) → netOf g .transitions ≤ 122 → netOf g .places ≤ 376 → ((p : ℕ) → p < netOf g .places → netOf g .src p ≢ netOf g .dst p) → Linked (netOf g .transitions) (netOf g .places) next src dst
-  linked ok few many far = record {
+  pub threaded : Proper (g .net) → g .net .transitions ≤ mostTransitions → g .net .places ≤ mostPlaces → ((p : ℕ) → p < g .net .places → g .net .src p ≢ g .net .dst p) → Threaded (g .net .transitions) (g .net .places) next src dst
+  threaded ok few many far = record {
     few = few;
     many = many;
-    nexts = λ q h t. subst (λ (v : ℕ). Next (drawn (netOf g .transitions) (netOf g .places) src dst) (Listed dst) v (q + 1) (at next q)) (sym (onto .leaves q h t)) (next-drawn (l .nexts q (omega arith) h (onto .fits q h t)));
+    nexts = λ q h t. subst (λ (v : ℕ). Next (drawn (g .net .transitions) (g .net .places) src dst) (Listed dst) v (q + 1) (at next q)) (sym (onto .leaves q h t)) (next-drawn (l .nexts q (omega arith) h (onto .fits q h t)));
     leaves = λ q h t. omega (arith, onto .leaves q h t, ok .src-in q h);
     enters = λ q h t. omega (arith, onto .enters q h t, ok .dst-in q h);
     apart = λ q h t e. far q h (sym (onto .leaves q h t) ∙ e ∙ onto .enters q h t);

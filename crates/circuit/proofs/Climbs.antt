@@ -13,10 +13,10 @@ use Rattle.marked.specs.Circuits.{froms}
 use Rattle.marked.proofs.Entries.{distinct-cross}
 use Rattle.marked.proofs.Pigeonhole.{pigeonhole}
 use Rattle.marked.proofs.Walks.{ends-same, froms-append, join, length-froms, part, starts, stays}
-use Rattle.tight.specs.Lists.{Linked, Listed, drawn}
-use Rattle.search.specs.Ways.{Noted, Rival, Trace}
-use Rattle.search.specs.Ways.Trace.{start, step}
-use Rattle.circuit.specs.Writing.{Measured, Written}
+use Rattle.tight.specs.helpers.Lists.{Threaded, Listed, drawn}
+use Rattle.search.specs.helpers.Ways.{FirstNoted, Rival, Trace}
+use Rattle.search.specs.helpers.Ways.Trace.{start, step}
+use Rattle.circuit.specs.helpers.Writing.{Counted, Written}
 
 module _ {g : Net} {T : ℕ → Type 0} where
   -- Where places of T leave from transitions, a way of them does.
@@ -63,13 +63,13 @@ module _ {g : Net} {T : ℕ → Type 0} {root goal : ℕ} {N : ℕ → ℕ} wher
 
 -- The trace from x back to root is still to come; what lies behind x is done.
 pub record Climb (nt np : ℕ) (src dst : List ℕ) (root goal : ℕ) (via : List ℕ) (x : ℕ) : Type 0 where
-  pub noted : Noted (drawn nt np src dst) (Listed dst) root goal (at via)
+  pub noted : FirstNoted (drawn nt np src dst) (Listed dst) root goal (at via)
   pub rest : List ℕ
   pub done : List ℕ
   pub trace : Trace (drawn nt np src dst) (Listed dst) root goal (at via) x rest
   pub parts : noted .way ≡ rest ++ done
 
-abbrev pub climb-start : {nt np : ℕ} {src dst : List ℕ} {root goal : ℕ} (via : List ℕ) → Noted (drawn nt np src dst) (Listed dst) root goal (at via) → Climb nt np src dst root goal via goal
+abbrev pub climb-start : {nt np : ℕ} {src dst : List ℕ} {root goal : ℕ} (via : List ℕ) → FirstNoted (drawn nt np src dst) (Listed dst) root goal (at via) → Climb nt np src dst root goal via goal
 climb-start via n = record { noted = n; rest = n .way; done = []; trace = n .trace; parts = sym (append-nil (n .way)) }
 
 -- One place back.
@@ -86,7 +86,7 @@ climb-on {nt} {np} {src} {dst} {root} {goal} {via} {x} {r} {y} c f e ey = record
       ∙ ap (λ (u : ℕ). last (c .trace) f .rest ++ (u ∷ c .done)) (note-place e (last (c .trace) f .note));
 }
 
-module _ {nt np : ℕ} {next src dst : List ℕ} (o : Linked nt np next src dst) {root goal : ℕ} (l : root < nt) {via : List ℕ} {x : ℕ} (c : Climb nt np src dst root goal via x) where
+module _ {nt np : ℕ} {next src dst : List ℕ} (o : Threaded nt np next src dst) {root goal : ℕ} (l : root < nt) {via : List ℕ} {x : ℕ} (c : Climb nt np src dst root goal via x) where
   trace-in : {y : ℕ} {ts : List ℕ} → Trace (drawn nt np src dst) (Listed dst) root goal (at via) y ts → y < nt
   trace-in start = l
   trace-in (step q t h i m) = o .enters q h i
@@ -136,10 +136,10 @@ pub record Fill (nt np : ℕ) (src dst : List ℕ) (root goal : ℕ) (via before
   pub others : (j : ℕ) → len ≤ j → at ring j ≡ at before j
   pub long : length ring ≡ length before
 
-pub fill-start : {nt np : ℕ} {src dst : List ℕ} {root goal : ℕ} {via before : List ℕ} {k : ℕ} → Measured nt np src dst root goal via k → Fill nt np src dst root goal via before before goal k k
+pub fill-start : {nt np : ℕ} {src dst : List ℕ} {root goal : ℕ} {via before : List ℕ} {k : ℕ} → Counted nt np src dst root goal via k → Fill nt np src dst root goal via before before goal k k
 fill-start {via = via} m = record { climb = climb-start via (m .noted); whole = m .count; count = omega (arith, m .count); slots = λ j h. absurd (omega arith); others = λ j h. refl; long = refl }
 
-module _ {nt np : ℕ} {next src dst : List ℕ} (o : Linked nt np next src dst) {root goal : ℕ} (l : root < nt) {via before ring : List ℕ} {x k len : ℕ} (c : Fill nt np src dst root goal via before ring x k len) (small : nt ≤ length before) where
+module _ {nt np : ℕ} {next src dst : List ℕ} (o : Threaded nt np next src dst) {root goal : ℕ} (l : root < nt) {via before ring : List ℕ} {x k len : ℕ} (c : Fill nt np src dst root goal via before ring x k len) (small : nt ≤ length before) where
   pub fill-left : x ≢ root → (2 ≤ k) × (k ≤ nt)
   fill-left f = climb-left o l (c .climb) (c .count) f
 
@@ -197,7 +197,7 @@ module _ {nt np : ℕ} {next src dst : List ℕ} (o : Linked nt np next src dst)
           getD-set-other ring 0 i p 0 (λ b. omega (arith, c .whole)) ∙ c .others i (omega arith) ∙ sym (ap (at ((p ∷ way) ++ drop len before)) s ∙ getD-append-add (p ∷ way) (drop len before) j 0 ∙ getD-drop len before j 0 ∙ ap (at before) t)
 
 -- Both ends of a listed place are transitions, and they differ.
-module _ {nt np : ℕ} {next src dst : List ℕ} (o : Linked nt np next src dst) {p root : ℕ} (h : p < np) (l : Listed dst p) (er : root ≡ at dst p) where
+module _ {nt np : ℕ} {next src dst : List ℕ} (o : Threaded nt np next src dst) {p root : ℕ} (h : p < np) (l : Listed dst p) (er : root ≡ at dst p) where
   pub root-in : root < nt
   root-in = omega (arith, o .enters p h l)
 
@@ -206,5 +206,5 @@ module _ {nt np : ℕ} {next src dst : List ℕ} (o : Linked nt np next src dst)
 
 pub noted-to :
     (nt np : ℕ) (src dst via : List ℕ) (p : ℕ) {root goal : ℕ} → root ≡ at dst p → goal ≡ at src p →
-    Noted (drawn nt np src dst) (Listed dst) (at dst p) (at src p) (at via) → Noted (drawn nt np src dst) (Listed dst) root goal (at via)
+    FirstNoted (drawn nt np src dst) (Listed dst) (at dst p) (at src p) (at via) → FirstNoted (drawn nt np src dst) (Listed dst) root goal (at via)
 noted-to nt np src dst via p er eg n = rw (er, eg) n

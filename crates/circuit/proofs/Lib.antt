@@ -3,3 +3,4 @@ pub mod Agree
 pub mod Choice
 pub mod Unique
 pub mod Handing
+pub mod Alike

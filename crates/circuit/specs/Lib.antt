@@ -1,2 +1,2 @@
 pub mod Chosen
-pub mod Writing
+pub mod helpers

@@ -2,16 +2,16 @@
 mod write;
 
 use net::EDGES;
-use net::OPERATIONS;
 use net::PLACES;
 use net::TRANSITIONS;
 use tight::LOOSE;
 ghost use Prim.Native.Nat.{_+_, _*_, _≤_};
 ghost use lib.ListN.{length};
-ghost use Rattle.net.specs.Plan.{rows};
-ghost use Rattle.net.specs.Graph.{netOf, startOf};
-ghost use Rattle.fraction.specs.Rows.{Sized};
-ghost use Rattle.tbo.specs.Bounded.{Bounded};
+ghost use Rattle.marked.specs.Net.{at};
+ghost use Rattle.net.specs.Plan.{wires};
+ghost use Rattle.net.specs.Graph.{netOf};
+ghost use Rattle.fraction.specs.helpers.Loaded.{Weighted, loaded};
+ghost use Rattle.tbo.specs.helpers.LargestBy.{LargestBy};
 ghost use Rattle.circuit.specs.Chosen.{Handed};
 
 // Writes the chosen circuit into ring, in travel order. The answer is how many places it has.
@@ -19,19 +19,19 @@ ghost use Rattle.circuit.specs.Chosen.{Handed};
 pub fn choose(
     n: usize,
     e: usize,
-    times: &[u32; OPERATIONS],
     from: &[u8; EDGES],
     to: &[u8; EDGES],
-    mark: &[u8; EDGES],
+    marking: &[u8; PLACES],
+    times: &[u32; TRANSITIONS],
     a: u64,
     b: u64,
     d: &[u64; TRANSITIONS],
     ring: &mut [u16],
 ) -> usize
-    requires { ⌜ Sized n e (now times) (now from) (now to) (now mark) ⌝ }
-    requires { ⌜ Bounded (rows n e (now times) (now from) (now to) (now mark)) a b (now d) ⌝ }
+    requires { ⌜ Weighted n e (now from) (now to) (now marking) (now times) ⌝ }
+    requires { ⌜ LargestBy (loaded n e (now from) (now to) (now marking) (now times)) a b (now d) ⌝ }
     requires { ⌜ 3 * n + 2 ≤ length (now ring) ⌝ }
-    ensures { λ k. ⌜ Handed (netOf (rows n e (now (times .entry)) (now (from .entry)) (now (to .entry)) (now (mark .entry)))) (startOf (rows n e (now (times .entry)) (now (from .entry)) (now (to .entry)) (now (mark .entry)))) a b (now (ring .entry)) k (now (ring .exit)) ⌝ }
+    ensures { λ k. ⌜ Handed (netOf (wires n e (now (from .entry)) (now (to .entry)))) (at (now (marking .entry))) (at (now (times .entry))) a b (now (ring .entry)) k (now (ring .exit)) ⌝ }
 {
     let nt = 3 * n + 2;
     let np = 3 * n + 2 * e;
@@ -42,10 +42,10 @@ pub fn choose(
     tight::list_tight(
         n,
         e,
-        times,
         from,
         to,
-        mark,
+        marking,
+        times,
         a,
         b,
         d,

@@ -7,9 +7,9 @@ ghost use mathlib.Core.Logic.{_≢_};
 ghost use Prim.Native.Nat.{_<_, _≤_};
 ghost use lib.ListN.{length};
 ghost use Rattle.marked.specs.Net.{at};
-ghost use Rattle.tight.specs.Lists.{Linked, Listed, drawn};
-ghost use Rattle.search.specs.Ways.{Noted};
-ghost use Rattle.circuit.specs.Writing.{Measured, Written};
+ghost use Rattle.tight.specs.helpers.Lists.{Threaded, Listed, drawn};
+ghost use Rattle.search.specs.helpers.Ways.{FirstNoted};
+ghost use Rattle.circuit.specs.helpers.Writing.{Counted, Written};
 
 // How many places the circuit has: those that lead back from goal to root, and the one before them.
 fn count_back(
@@ -22,10 +22,10 @@ fn count_back(
     root: usize,
     goal: usize,
 ) -> usize
-    requires { ⌜ Linked nt np (now next) (now src) (now dst) ⌝ }
+    requires { ⌜ Threaded nt np (now next) (now src) (now dst) ⌝ }
     requires { ⌜ (root < nt) × (root ≢ goal) ⌝ }
-    requires { ⌜ Noted (drawn nt np (now src) (now dst)) (Listed (now dst)) root goal (at (now via)) ⌝ }
-    ensures { λ k. ⌜ Measured nt np (now (src .entry)) (now (dst .entry)) root goal (now (via .entry)) k ⌝ }
+    requires { ⌜ FirstNoted (drawn nt np (now src) (now dst)) (Listed (now dst)) root goal (at (now via)) ⌝ }
+    ensures { λ k. ⌜ Counted nt np (now (src .entry)) (now (dst .entry)) root goal (now (via .entry)) k ⌝ }
 {
     let mut x = goal;
     let mut k: usize = 1;
@@ -48,9 +48,9 @@ pub fn hand_out(
     p: usize,
     ring: &mut [u16],
 ) -> usize
-    requires { ⌜ Linked nt np (now next) (now src) (now dst) ⌝ }
+    requires { ⌜ Threaded nt np (now next) (now src) (now dst) ⌝ }
     requires { ⌜ (p < np) × Listed (now dst) p × (nt ≤ length (now ring)) ⌝ }
-    requires { ⌜ Noted (drawn nt np (now src) (now dst)) (Listed (now dst)) (at (now dst) p) (at (now src) p) (at (now via)) ⌝ }
+    requires { ⌜ FirstNoted (drawn nt np (now src) (now dst)) (Listed (now dst)) (at (now dst) p) (at (now src) p) (at (now via)) ⌝ }
     ensures { λ k. ⌜ Written nt np (now (src .entry)) (now (dst .entry)) p (now (ring .entry)) k (now (ring .exit)) ⌝ }
 {
     let goal = number(src[p]);

@@ -4,8 +4,8 @@ use Prim.Native.Nat.{_%_, _∣_, _*_, _+_, _/_, _<_, _≤_, ℕ}
 use native.Mathlib.Nat.{div-add-mod', div-mul-cancel, dvd-add-iff-right, dvd-mod-iff, dvd-mul-left, dvd-mul-left-of-dvd, dvd-mul-right, dvd-zero, le-of-dvd, le-of-mul-le-mul-right, mul-le-mul}
 use native.Mathlib.Decide.{ℕ-discrete}
 use native.Mathlib.Omega.{arith}
-use Rattle.fraction.specs.Terms.{InLowest}
-use Rattle.fraction.specs.Divides.{Divisor}
+use Rattle.fraction.specs.helpers.Terms.{InLowest}
+use Rattle.fraction.specs.helpers.Divides.{Divisor}
 
 -- x and y have in common what a and b have.
 pub record Common (a b x y : ℕ) : Type 0 where

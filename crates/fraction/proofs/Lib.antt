@@ -1,2 +1,2 @@
-pub mod Rows
+pub mod Loads
 pub mod Euclid

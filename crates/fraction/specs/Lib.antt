@@ -1,3 +1,1 @@
-pub mod Rows
-pub mod Terms
-pub mod Divides
+pub mod helpers

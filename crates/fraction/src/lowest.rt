@@ -1,7 +1,7 @@
 // A fraction in lowest terms, by Euclid's algorithm.
 ghost use Prim.Native.Nat.{_≤_};
-ghost use Rattle.fraction.specs.Terms.{InLowest};
-ghost use Rattle.fraction.specs.Divides.{Divisor};
+ghost use Rattle.fraction.specs.helpers.Terms.{InLowest};
+ghost use Rattle.fraction.specs.helpers.Divides.{Divisor};
 
 // A number of time units for a number of tokens.
 pub struct Ratio {

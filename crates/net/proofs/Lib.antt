@@ -2,6 +2,7 @@ pub mod Shapes
 pub mod Relaxing
 pub mod Fewest
 pub mod Starting
+pub mod Timing
 pub mod Table
 pub mod Safe
 pub mod Strong

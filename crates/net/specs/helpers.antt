@@ -3,3 +3,4 @@ pub mod Work
 pub mod Distance
 pub mod Relax
 pub mod Start
+pub mod Times

@@ -2,6 +2,7 @@
 pub mod distances;
 pub mod ends;
 pub mod start;
+pub mod times;
 
 // The fewest and the most operations and edges: arrays have room for the most.
 pub const FEWEST_OPERATIONS: usize = 1;

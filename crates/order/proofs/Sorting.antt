@@ -8,8 +8,8 @@ use native.Mathlib.Decide.{decLt, ℕ-discrete}
 use lib.ListN.{length, length-set, set}
 use lib.Seq.{getD-set-other, getD-set-same}
 use Rattle.marked.specs.Net.{at}
-use Rattle.order.specs.Items.{Enlisted, Item, Numbered, Ordered, Sorting, Where}
-use Rattle.order.specs.Items.Where.{kept, next, put}
+use Rattle.order.specs.helpers.Items.{Enlisted, Item, ItemAt, Ordered, Sorting, Where}
+use Rattle.order.specs.helpers.Items.Where.{kept, next, put}
 
 module _ {n e : ℕ} {left ord : List ℕ} {i l m c : ℕ} (s : Sorting n e left ord i l m c) (few : n ≤ 40) (many : e ≤ 128) (h : i < l) where
   pub sort-item : Item n e (at left i)
@@ -109,15 +109,15 @@ sort-end {n} {e} {left} {ord} {l} {c} s z = record { items = λ j k. s .puts j (
     in-order (next j u v w) = absurd (omega arith)
 
 -- The items in their own order.
-pub listed-item : (n e i : ℕ) {r : ℕ} → i < n + e → Numbered e i r → Item n e r
+pub listed-item : (n e i : ℕ) {r : ℕ} → i < n + e → ItemAt e i r → Item n e r
 listed-item n e i h o = elim (decLt i e) [ yes k ↦ inl (omega (arith, o .edge k)) | no k ↦ inr (omega (arith, o .operation (omega arith)), omega (arith, o .operation (omega arith))) ]
 
 module _ {n e i x : ℕ} {left : List ℕ} (o : Enlisted n e i left) where
-  pub enlist-on : i < 168 → Numbered e i x → Enlisted n e (i + 1) (set left i x)
+  pub enlist-on : i < 168 → ItemAt e i x → Enlisted n e (i + 1) (set left i x)
   enlist-on h k = record {
     each = λ j l. elim (ℕ-discrete j i) [
-      | yes z ↦ subst (λ (y : ℕ). Numbered e y (at (set left i x) y)) (sym z) (subst (Numbered e i) (sym (getD-set-same left i x 0 (omega (arith, o .long)))) k)
-      | no z ↦ subst (Numbered e j) (sym (getD-set-other left i j x 0 z)) (o .each j (omega arith))
+      | yes z ↦ subst (λ (y : ℕ). ItemAt e y (at (set left i x) y)) (sym z) (subst (ItemAt e i) (sym (getD-set-same left i x 0 (omega (arith, o .long)))) k)
+      | no z ↦ subst (ItemAt e j) (sym (getD-set-other left i j x 0 z)) (o .each j (omega arith))
     ];
     long = length-set left i x ∙ o .long;
   }

@@ -1,2 +1,1 @@
-pub mod Items
-pub mod Orders
+pub mod helpers

@@ -3,15 +3,17 @@
 use fraction::widen::number;
 use net::EDGES;
 use net::OPERATIONS;
+use net::PLACES;
 use net::TRANSITIONS;
 use net::ends;
 ghost use mathlib.Core.Path.{_≡_};
 ghost use mathlib.Core.Bool.{true};
 ghost use Prim.Native.Nat.{_+_, _<_, _≤_};
 ghost use lib.ListN.{length};
-ghost use Rattle.net.specs.Valid.{Valid};
-ghost use Rattle.order.specs.Items.{Enlisted, Item, Numbered, Ordered, Sorting};
-ghost use Rattle.order.specs.Orders.{Passed, Took};
+ghost use Rattle.net.specs.Limits.{mostEdges, mostOperations, mostTransitions};
+ghost use Rattle.net.specs.Good.{Wired};
+ghost use Rattle.order.specs.helpers.Items.{Enlisted, Item, ItemAt, Ordered, Sorting, mostItems};
+ghost use Rattle.order.specs.helpers.Orders.{PassDone, Took};
 
 // Room for every item.
 pub const ITEMS: usize = OPERATIONS + EDGES;
@@ -34,8 +36,8 @@ fn less(x: u8) -> u8 {
 
 // The item of number i: the edges first, then the operations.
 fn item(n: usize, e: usize, i: usize) -> u8
-    requires { ⌜ (n ≤ 40) × (e ≤ 128) × (i < n + e) ⌝ }
-    ensures { λ r. ⌜ Numbered e i r ⌝ }
+    requires { ⌜ (n ≤ mostOperations) × (e ≤ mostEdges) × (i < n + e) ⌝ }
+    ensures { λ r. ⌜ ItemAt e i r ⌝ }
 {
     if i < e {
         return i as u8;
@@ -43,23 +45,23 @@ fn item(n: usize, e: usize, i: usize) -> u8
     (i - e + EDGES) as u8
 }
 
-// Where the item's places without a token come from: an operation's from its read, an unmarked edge's from a write, a marked edge's from a read.
+// Where the item's places without a token come from: an operation's from its read, an edge's from a write where its full place has none, else from a read.
 fn gate(
     n: usize,
     e: usize,
     from: &[u8; EDGES],
     to: &[u8; EDGES],
-    mark: &[u8; EDGES],
+    marking: &[u8; PLACES],
     x: usize,
 ) -> usize
-    requires { ⌜ Valid n e (now from) (now to) ⌝ }
+    requires { ⌜ Wired n e (now from) (now to) ⌝ }
     requires { ⌜ Item n e x ⌝ }
-    ensures { λ r. ⌜ r < 122 ⌝ }
+    ensures { λ r. ⌜ r < mostTransitions ⌝ }
 {
     if x >= EDGES {
         return 3 * (x - EDGES) + 1;
     }
-    if mark[x] == 0 {
+    if marking[3 * n + 2 * x] == 0 {
         return ends::write_of(from[x]);
     }
     ends::read_of(to[x])
@@ -71,17 +73,17 @@ fn goal(
     e: usize,
     from: &[u8; EDGES],
     to: &[u8; EDGES],
-    mark: &[u8; EDGES],
+    marking: &[u8; PLACES],
     x: usize,
 ) -> usize
-    requires { ⌜ Valid n e (now from) (now to) ⌝ }
+    requires { ⌜ Wired n e (now from) (now to) ⌝ }
     requires { ⌜ Item n e x ⌝ }
-    ensures { λ r. ⌜ r < 122 ⌝ }
+    ensures { λ r. ⌜ r < mostTransitions ⌝ }
 {
     if x >= EDGES {
         return 3 * (x - EDGES) + 3;
     }
-    if mark[x] == 0 {
+    if marking[3 * n + 2 * x] == 0 {
         return ends::read_of(to[x]);
     }
     ends::write_of(from[x])
@@ -93,19 +95,19 @@ fn enlist(
     e: usize,
     from: &[u8; EDGES],
     to: &[u8; EDGES],
-    mark: &[u8; EDGES],
+    marking: &[u8; PLACES],
     wait: &mut [u8; TRANSITIONS],
     left: &mut [u8; ITEMS],
 )
-    requires { ⌜ Valid n e (now from) (now to) ⌝ }
-    requires { ⌜ length (now left) ≡ 168 ⌝ }
+    requires { ⌜ Wired n e (now from) (now to) ⌝ }
+    requires { ⌜ length (now left) ≡ mostItems ⌝ }
     ensures { λ _. ⌜ Enlisted n e (n + e) (now (left .exit)) ⌝ }
 {
     let mut i = 0;
     while i < n + e {
         let x = item(n, e, i);
         left[i] = x;
-        let t = goal(n, e, from, to, mark, number(x));
+        let t = goal(n, e, from, to, marking, number(x));
         wait[t] = more(wait[t]);
         i += 1;
     }
@@ -133,7 +135,7 @@ fn take(
     e: usize,
     from: &[u8; EDGES],
     to: &[u8; EDGES],
-    mark: &[u8; EDGES],
+    marking: &[u8; PLACES],
     force: bool,
     i: usize,
     l: usize,
@@ -143,15 +145,15 @@ fn take(
     left: &mut [u8; ITEMS],
     ord: &mut [u8; ITEMS],
 ) -> Taken
-    requires { ⌜ Valid n e (now from) (now to) ⌝ }
+    requires { ⌜ Wired n e (now from) (now to) ⌝ }
     requires { ⌜ i < l ⌝ }
     requires { ⌜ Sorting n e (now left) (now ord) i l m c ⌝ }
     ensures { λ r. ⌜ Took n e (now (left .exit)) (now (ord .exit)) force i l m (r .kept) (r .put) ⌝ }
 {
     let x = left[i];
     let k = number(x);
-    if ready(force, wait[gate(n, e, from, to, mark, k)]) {
-        let t = goal(n, e, from, to, mark, k);
+    if ready(force, wait[gate(n, e, from, to, marking, k)]) {
+        let t = goal(n, e, from, to, marking, k);
         wait[t] = less(wait[t]);
         ord[c] = x;
         return Taken {
@@ -172,7 +174,7 @@ fn pass(
     e: usize,
     from: &[u8; EDGES],
     to: &[u8; EDGES],
-    mark: &[u8; EDGES],
+    marking: &[u8; PLACES],
     force: bool,
     l: usize,
     c: usize,
@@ -180,15 +182,15 @@ fn pass(
     left: &mut [u8; ITEMS],
     ord: &mut [u8; ITEMS],
 ) -> Taken
-    requires { ⌜ Valid n e (now from) (now to) ⌝ }
+    requires { ⌜ Wired n e (now from) (now to) ⌝ }
     requires { ⌜ Sorting n e (now left) (now ord) 0 l 0 c ⌝ }
-    ensures { λ r. ⌜ Passed n e (now (left .exit)) (now (ord .exit)) force l (r .kept) (r .put) ⌝ }
+    ensures { λ r. ⌜ PassDone n e (now (left .exit)) (now (ord .exit)) force l (r .kept) (r .put) ⌝ }
 {
     let mut m = 0;
     let mut p = c;
     let mut i = 0;
     while i < l {
-        let s = take(n, e, from, to, mark, force, i, l, m, p, wait, left, ord);
+        let s = take(n, e, from, to, marking, force, i, l, m, p, wait, left, ord);
         m = s.kept;
         p = s.put;
         i += 1;
@@ -202,24 +204,24 @@ pub fn order(
     e: usize,
     from: &[u8; EDGES],
     to: &[u8; EDGES],
-    mark: &[u8; EDGES],
+    marking: &[u8; PLACES],
     ord: &mut [u8; ITEMS],
 )
-    requires { ⌜ Valid n e (now from) (now to) ⌝ }
-    requires { ⌜ length (now ord) ≡ 168 ⌝ }
+    requires { ⌜ Wired n e (now from) (now to) ⌝ }
+    requires { ⌜ length (now ord) ≡ mostItems ⌝ }
     ensures { λ _. ⌜ Ordered n e (now (ord .exit)) ⌝ }
 {
     let mut wait = [0u8; TRANSITIONS];
     let mut left = [0u8; ITEMS];
-    enlist(n, e, from, to, mark, &mut wait, &mut left);
+    enlist(n, e, from, to, marking, &mut wait, &mut left);
     let mut l = n + e;
     let mut c = 0;
     loop {
-        let s = pass(n, e, from, to, mark, false, l, c, &mut wait, &mut left, ord);
+        let s = pass(n, e, from, to, marking, false, l, c, &mut wait, &mut left, ord);
         let kept = s.kept;
         c = s.put;
         if kept == l {
-            pass(n, e, from, to, mark, true, l, c, &mut wait, &mut left, ord);
+            pass(n, e, from, to, marking, true, l, c, &mut wait, &mut left, ord);
             return;
         }
         l = kept;

@@ -10,10 +10,10 @@ use Rattle.marked.specs.Net.{Net}
 use Rattle.marked.specs.Circuits.{froms}
 use Rattle.marked.proofs.Entries.{all-append, all-left, all-map, all-right, distinct-swap}
 use Rattle.marked.proofs.Walks.{froms-append}
-use Rattle.tight.specs.Lists.{Next}
-use Rattle.search.specs.Ways.{Noted, Search, Trace, Trail}
-use Rattle.search.specs.Ways.Trail.{here, on}
-use Rattle.search.specs.Ways.Trace.{start, step}
+use Rattle.tight.specs.helpers.Lists.{Next}
+use Rattle.search.specs.helpers.Ways.{FirstNoted, Search, Trace, Trail}
+use Rattle.search.specs.helpers.Ways.Trail.{here, on}
+use Rattle.search.specs.helpers.Ways.Trace.{start, step}
 use Rattle.search.proofs.Trails.{best-on, distinct-last, found, marked-last, new-to}
 
 -- B is A with v at i
@@ -143,7 +143,7 @@ module _ {g : Net} {T : ℕ → Type 0} {root goal : ℕ} where
                 (keeps v (o .0), (elsewhere v (o .0), a))
 
         -- the next place leads to the goal
-        pub reached : {N2 : ℕ → ℕ} → g .dst q ≡ goal → Put N N2 (g .dst q) (q + 1) → Noted g T root goal N2
+        pub reached : {N2 : ℕ → ℕ} → g .dst q ≡ goal → Put N N2 (g .dst q) (q + 1) → FirstNoted g T root goal N2
         reached {N2} e pn =
             let r : Trace g T root goal N2 (g .src q) ts = rw leaves (trail-trace (λ v n. pn .same v (λ d. n (ap M (d ∙ e) ∙ s .free))) (s .trail)) in
             record {

@@ -13,8 +13,8 @@ use Rattle.marked.specs.Order.Before.{later, lower}
 use Rattle.marked.proofs.Entries.{all-append, all-map, all-right, all-zip, distinct-cross, distinct-right, distinct-swap}
 use Rattle.marked.proofs.Walks.{ends-same, froms-append, join, part, rest, starts, stays}
 use Rattle.marked.proofs.Sizes.{walk-places}
-use Rattle.search.specs.Ways.{Best, Cut, First, Rival, Search, Trail}
-use Rattle.search.specs.Ways.Trail.{here, on}
+use Rattle.search.specs.helpers.Ways.{Best, Cut, First, Rival, Search, Trail}
+use Rattle.search.specs.helpers.Ways.Trail.{here, on}
 
 before-more : {ts qs : List ℕ} (us : List ℕ) → Before ts qs → Before (ts ++ us) qs
 before-more us (lower h) = lower h

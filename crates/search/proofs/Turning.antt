@@ -13,11 +13,11 @@ use Rattle.marked.specs.Net.{at}
 use Rattle.marked.proofs.Pigeonhole.{upto-less}
 use Rattle.marked.proofs.Tallies.{upto-most}
 use Rattle.marked.proofs.Fresh.{zeros}
-use Rattle.tight.specs.Lists.{Headed, Linked, Listed, Next, drawn}
-use Rattle.search.specs.Ways.{Cut, Noted, Search, Trail}
-use Rattle.search.specs.Ways.Trail.{here, on}
-use Rattle.search.specs.Turns.{Lowest, Outcome, Sought, Tried, Turned, Under}
-use Rattle.search.specs.Turns.Outcome.{gone, got, moved}
+use Rattle.tight.specs.helpers.Lists.{Headed, Threaded, Listed, Next, drawn}
+use Rattle.search.specs.helpers.Ways.{Cut, FirstNoted, Search, Trail}
+use Rattle.search.specs.helpers.Ways.Trail.{here, on}
+use Rattle.search.specs.helpers.Turns.{LowestBack, MoveEnds, Sought, Tried, Turned, Under}
+use Rattle.search.specs.helpers.Turns.MoveEnds.{gone, got, moved}
 use Rattle.search.specs.declared.Move.{Move}
 use Rattle.search.specs.declared.Move.the-variants.{At, GivenUp, Reached}
 use Rattle.search.proofs.Trails.{none-left}
@@ -26,7 +26,7 @@ use Rattle.search.proofs.Moves.{Popped, Put, begin, pop, push, reached,
 put-set : (l : List ℕ) (i v : ℕ) → i < length l → Put (at l) (at (set l i v)) i v
 put-set l i v h = record { new = getD-set-same l i v 0 h; same = λ u f. getD-set-other l i u v 0 f }
 
-module _ {nt np : ℕ} {next src dst : List ℕ} (k : Linked nt np next src dst) {root goal : ℕ} {seen via cur : List ℕ} {x : ℕ} (u : Under nt np src dst root goal seen via cur x) where
+module _ {nt np : ℕ} {next src dst : List ℕ} (k : Threaded nt np next src dst) {root goal : ℕ} {seen via cur : List ℕ} {x : ℕ} (u : Under nt np src dst root goal seen via cur x) where
   trail-in : {M N : ℕ → ℕ} {y : ℕ} {ts : List ℕ} → root < nt → Trail (drawn nt np src dst) (Listed dst) root goal M N y ts → y < nt
   trail-in l here = l
   trail-in l (on q t h i e b m n) = k .enters q h i
@@ -140,12 +140,12 @@ module _ {nt np : ℕ} {next src dst : List ℕ} (k : Linked nt np next src dst)
               low = low-next (omega (arith, after .most));
             }
 
-        pub arrive : y ≡ goal → Noted (drawn nt np src dst) (Listed dst) root goal (at (set via y (q + 1))) × (length (set via y (q + 1)) ≡ 122)
+        pub arrive : y ≡ goal → FirstNoted (drawn nt np src dst) (Listed dst) root goal (at (set via y (q + 1))) × (length (set via y (q + 1)) ≡ 122)
         arrive e = (reached (u .search) (sym eq) put after less tight leaves (sym ey ∙ e) noted, length-set via y (q + 1) ∙ u .deep)
 
 -- The start of the search.
 pub under-start :
-    {nt np : ℕ} {head next src dst via : List ℕ} {root goal : ℕ} → Linked nt np next src dst → Headed nt np head src dst → root < nt → goal ≢ root → length via ≡ 122 →
+    {nt np : ℕ} {head next src dst via : List ℕ} {root goal : ℕ} → Threaded nt np next src dst → Headed nt np head src dst → root < nt → goal ≢ root → length via ≡ 122 →
     Under nt np src dst root goal (set (replicate 122 0) root 1) via head root
 under-start {nt} {np} {head} {next} {src} {dst} {via} {root} {goal} k o h f l = record {
   ts = [];
@@ -169,23 +169,23 @@ module _ {nt np : ℕ} {src dst : List ℕ} {root goal : ℕ} {seen via cur : Li
   unfolding left
   left-less t u = omega (arith, t .further, upto-most (at cur) (np + 1) 122 (λ v l. u .low v))
 
-  pub outcome-at : {m : Move} {y : ℕ} → Outcome nt np src dst root goal seen via cur m → m ≡ At y → Under nt np src dst root goal seen via cur y
+  pub outcome-at : {m : Move} {y : ℕ} → MoveEnds nt np src dst root goal seen via cur m → m ≡ At y → Under nt np src dst root goal seen via cur y
   outcome-at {y = y} (moved {y = z} h) e = let d : z ≡ y = cc in rw (← d) h
   outcome-at (got n l) e = let z : _≡_ {A = ℕ} 0 1 = cc in absurd (omega arith)
   outcome-at (gone n l) e = let z : _≡_ {A = ℕ} 0 1 = cc in absurd (omega arith)
 
-  pub outcome-got : {m : Move} → Outcome nt np src dst root goal seen via cur m → m ≡ Reached → Noted (drawn nt np src dst) (Listed dst) root goal (at via) × (length via ≡ 122)
+  pub outcome-got : {m : Move} → MoveEnds nt np src dst root goal seen via cur m → m ≡ Reached → FirstNoted (drawn nt np src dst) (Listed dst) root goal (at via) × (length via ≡ 122)
   outcome-got (moved h) e = let z : _≡_ {A = ℕ} 0 1 = cc in absurd (omega arith)
   outcome-got (got n l) e = (n, l)
   outcome-got (gone n l) e = let z : _≡_ {A = ℕ} 0 1 = cc in absurd (omega arith)
 
-  pub outcome-gone : {m : Move} → Outcome nt np src dst root goal seen via cur m → m ≡ GivenUp → Cut (drawn nt np src dst) (Listed dst) root goal × (length via ≡ 122)
+  pub outcome-gone : {m : Move} → MoveEnds nt np src dst root goal seen via cur m → m ≡ GivenUp → Cut (drawn nt np src dst) (Listed dst) root goal × (length via ≡ 122)
   outcome-gone (moved h) e = let z : _≡_ {A = ℕ} 0 1 = cc in absurd (omega arith)
   outcome-gone (got n l) e = let z : _≡_ {A = ℕ} 0 1 = cc in absurd (omega arith)
   outcome-gone (gone n l) e = (n, l)
 
 module _ {nt np : ℕ} {src dst via : List ℕ} {p root goal : ℕ} (er : root ≡ at dst p) (eg : goal ≡ at src p) where
-  pub sought-yes : Noted (drawn nt np src dst) (Listed dst) root goal (at via) × (length via ≡ 122) → Sought nt np src dst p via true
+  pub sought-yes : FirstNoted (drawn nt np src dst) (Listed dst) root goal (at via) × (length via ≡ 122) → Sought nt np src dst p via true
   sought-yes n = record { long = n .1; yes = λ z. rw (← er, ← eg) (n .0); no = λ z. absurd (true≢false z) }
 
   pub sought-no : Cut (drawn nt np src dst) (Listed dst) root goal × (length via ≡ 122) → Sought nt np src dst p via false
@@ -219,8 +219,8 @@ module _ {nt np : ℕ} {src dst : List ℕ} where
       ];
     }
 
-    pub lowest-yes : {w : List ℕ} {r : Bool} → Tried nt np src dst p w r → r ≡ true → Lowest nt np src dst w p
+    pub lowest-yes : {w : List ℕ} {r : Bool} → Tried nt np src dst p w r → r ≡ true → LowestBack nt np src dst w p
     lowest-yes t e = record { most = m .most; below = m .none; fits = λ h. t .fits e; noted = λ h. t .yes e }
 
-    pub lowest-none : (p < np → ⊥) → Lowest nt np src dst via p
+    pub lowest-none : (p < np → ⊥) → LowestBack nt np src dst via p
     lowest-none f = record { most = m .most; below = m .none; fits = λ h. absurd (f h); noted = λ h. absurd (f h) }

@@ -7,8 +7,9 @@ use tight::LOOSE;
 ghost use mathlib.Core.Path.{_≡_};
 ghost use Prim.Native.Nat.{_+_, _<_};
 ghost use lib.ListN.{length};
-ghost use Rattle.tight.specs.Lists.{Headed, Linked, Listed};
-ghost use Rattle.search.specs.Turns.{Lowest, Sought, Tried, Turned, Under};
+ghost use Rattle.net.specs.Limits.{mostTransitions};
+ghost use Rattle.tight.specs.helpers.Lists.{Headed, Threaded, Listed};
+ghost use Rattle.search.specs.helpers.Turns.{LowestBack, Sought, Tried, Turned, Under};
 
 // What a move leads to: another transition, the goal, or nowhere.
 pub enum Move {
@@ -31,7 +32,7 @@ fn turn(
     via: &mut [u16; TRANSITIONS],
     cur: &mut [u16; TRANSITIONS],
 ) -> Move
-    requires { ⌜ Linked nt np (now next) (now src) (now dst) ⌝ }
+    requires { ⌜ Threaded nt np (now next) (now src) (now dst) ⌝ }
     requires { ⌜ Under nt np (now src) (now dst) root goal (now seen) (now via) (now cur) x ⌝ }
     ensures { λ r. ⌜ Turned nt np (now (src .entry)) (now (dst .entry)) root goal (now (cur .entry)) (now (seen .exit)) (now (via .exit)) (now (cur .exit)) r ⌝ }
 {
@@ -69,9 +70,9 @@ fn search(
     p: usize,
     via: &mut [u16; TRANSITIONS],
 ) -> bool
-    requires { ⌜ Linked nt np (now next) (now src) (now dst) ⌝ }
+    requires { ⌜ Threaded nt np (now next) (now src) (now dst) ⌝ }
     requires { ⌜ Headed nt np (now head) (now src) (now dst) ⌝ }
-    requires { ⌜ (p < np) × Listed (now dst) p × (length (now via) ≡ 122) ⌝ }
+    requires { ⌜ (p < np) × Listed (now dst) p × (length (now via) ≡ mostTransitions) ⌝ }
     ensures { λ r. ⌜ Sought nt np (now (src .entry)) (now (dst .entry)) p (now (via .exit)) r ⌝ }
 {
     let goal = number(src[p]);
@@ -119,9 +120,9 @@ fn returns_to(
     p: usize,
     via: &mut [u16; TRANSITIONS],
 ) -> bool
-    requires { ⌜ Linked nt np (now next) (now src) (now dst) ⌝ }
+    requires { ⌜ Threaded nt np (now next) (now src) (now dst) ⌝ }
     requires { ⌜ Headed nt np (now head) (now src) (now dst) ⌝ }
-    requires { ⌜ (p < np) × (length (now via) ≡ 122) ⌝ }
+    requires { ⌜ (p < np) × (length (now via) ≡ mostTransitions) ⌝ }
     ensures { λ r. ⌜ Tried nt np (now (src .entry)) (now (dst .entry)) p (now (via .exit)) r ⌝ }
 {
     if dst[p] == LOOSE {
@@ -140,10 +141,10 @@ pub fn first(
     dst: &[u8; PLACES],
     via: &mut [u16; TRANSITIONS],
 ) -> usize
-    requires { ⌜ Linked nt np (now next) (now src) (now dst) ⌝ }
+    requires { ⌜ Threaded nt np (now next) (now src) (now dst) ⌝ }
     requires { ⌜ Headed nt np (now head) (now src) (now dst) ⌝ }
-    requires { ⌜ length (now via) ≡ 122 ⌝ }
-    ensures { λ r. ⌜ Lowest nt np (now (src .entry)) (now (dst .entry)) (now (via .exit)) r ⌝ }
+    requires { ⌜ length (now via) ≡ mostTransitions ⌝ }
+    ensures { λ r. ⌜ LowestBack nt np (now (src .entry)) (now (dst .entry)) (now (via .exit)) r ⌝ }
 {
     let mut p = 0;
     while p < np {

@@ -6,8 +6,8 @@ use Prim.Native.Nat.{_*_, _+_, _-_, _/_, _<_, _≤_, ℕ}
 use native.Mathlib.Omega.{arith}
 use native.Mathlib.Decide.{decLt, ℕ-discrete}
 use Rattle.marked.specs.Net.{at}
-use Rattle.order.specs.Items.{Ordered}
-use Rattle.sweep.specs.Places.{Among, Between, Every, Of}
+use Rattle.order.specs.helpers.Items.{Ordered}
+use Rattle.sweep.specs.helpers.Places.{Among, Between, Every, Of}
 
 -- Every place is one of some item.
 pub all-among : {n e : ℕ} {ord : List ℕ} → e ≤ 128 → Ordered n e ord → (p : ℕ) → Every (3 * n + 2 * e) p → Among n ord (n + e) p

@@ -8,9 +8,10 @@ use native.Mathlib.Decide.{ℕ-discrete}
 use lib.ListN.{getD, length, length-set, set}
 use lib.Seq.{getD-set-same, getD-set-other}
 use Rattle.marked.specs.Net.{Net, at}
-use Rattle.sweep.specs.Raises.{Lift, Passed, Raised, Room, Swept}
-use Rattle.sweep.specs.Raises.Lifts.{more, none}
-use Rattle.sweep.specs.Raises.Raised.{kept, raised}
+use Rattle.net.specs.Graph.{RunsFrom}
+use Rattle.sweep.specs.helpers.Raises.{Lift, NoRise, Raised, Room, SweptOver}
+use Rattle.sweep.specs.helpers.Raises.Lifts.{more, none}
+use Rattle.sweep.specs.helpers.Raises.Raised.{kept, raised}
 use Rattle.sweep.proofs.Lifting.{lifts-trans, lifts-up}
 
 -- a raise leaves room
@@ -26,20 +27,25 @@ room-raised {s} {t} {p} {up} {down} {d} {c} top step l r (raised hd hc j) = reco
     at {v} (no f) = omega (arith, getD-set-other d t v (getD d s 0 + up - down) 0 f, r .low v)
 room-raised top step l r (kept j) = record { low = λ v. omega (arith, r .low v); long = r .long; wide = r .wide }
 
+-- the gain and the cost told by other words
+pub raised-as :
+    {s t p up up2 down down2 : ℕ} {d c h k : List ℕ} {x y : ℕ} → up ≡ up2 → down ≡ down2 → Raised s t p up down d c x h k y → Raised s t p up2 down2 d c x h k y
+raised-as e f w = rw (← e, ← f) w
+
 pub raised-long : {s t p up down : ℕ} {d c h k : List ℕ} {x y : ℕ} → Raised s t p up down d c x h k y → (length h ≡ length d) × (length k ≡ length c)
 raised-long {t = t} {d = d} {c = c} (raised hd hc j) = (length-set d t _, length-set c t _)
 raised-long (kept j) = (refl, refl)
 
-module _ {g : Net} {m : ℕ → ℕ} {a b : ℕ} where
-  pub swept-none : {S : ℕ → Type 0} {x : ℕ} {D P : ℕ → ℕ} → ((p : ℕ) → S p → ⊥) → Swept g m a b S 0 D P D P x x
-  swept-none f = record { times = 0; few = omega arith; lifts = none; passed = λ p s. absurd (f p s); quiet = λ e. (e, λ v. refl); loud = inl refl }
+module _ {g : Net} {m time : ℕ → ℕ} {a b : ℕ} where
+  pub swept-none : {S : ℕ → Type 0} {x : ℕ} {D P : ℕ → ℕ} → ((p : ℕ) → S p → ⊥) → SweptOver g m time a b S 0 D P D P x x
+  swept-none f = record { rises = 0; few = omega arith; lifts = none; passed = λ p s. absurd (f p s); quiet = λ e. (e, λ v. refl); loud = inl refl }
 
-  pub swept-to : {S U : ℕ → Type 0} {k l x y : ℕ} {D P E Q : ℕ → ℕ} → ((p : ℕ) → U p → S p) → k ≤ l → Swept g m a b S k D P E Q x y → Swept g m a b U l D P E Q x y
-  swept-to f h w = record { times = w .times; few = omega (arith, w .few); lifts = w .lifts; passed = λ p s. w .passed p (f p s); quiet = w .quiet; loud = w .loud }
+  pub swept-to : {S U : ℕ → Type 0} {k l x y : ℕ} {D P E Q : ℕ → ℕ} → ((p : ℕ) → U p → S p) → k ≤ l → SweptOver g m time a b S k D P E Q x y → SweptOver g m time a b U l D P E Q x y
+  swept-to f h w = record { rises = w .rises; few = omega (arith, w .few); lifts = w .lifts; passed = λ p s. w .passed p (f p s); quiet = w .quiet; loud = w .loud }
 
-  pub swept-then : {S U W : ℕ → Type 0} {k l x y z : ℕ} {D P E Q F R : ℕ → ℕ} → ((p : ℕ) → W p → S p ⊎ U p) → Swept g m a b S k D P E Q x y → Swept g m a b U l E Q F R y z → Swept g m a b W (k + l) D P F R x z
+  pub swept-then : {S U W : ℕ → Type 0} {k l x y z : ℕ} {D P E Q F R : ℕ → ℕ} → ((p : ℕ) → W p → S p ⊎ U p) → SweptOver g m time a b S k D P E Q x y → SweptOver g m time a b U l E Q F R y z → SweptOver g m time a b W (k + l) D P F R x z
   swept-then {S} {U} {W} {x = x} {y = y} {z = z} {D} {P} {E} {Q} {F} {R} part f h = record {
-    times = f .times + h .times;
+    rises = f .rises + h .rises;
     few = omega (arith, f .few, h .few);
     lifts = lifts-trans (f .lifts) (h .lifts);
     passed = λ p s. pass p (part p s);
@@ -47,7 +53,7 @@ module _ {g : Net} {m : ℕ → ℕ} {a b : ℕ} where
     loud = rose (f .loud) (h .loud);
   }
     where
-      pass : (p : ℕ) → S p ⊎ U p → Passed g m a b D F p
+      pass : (p : ℕ) → S p ⊎ U p → NoRise g m time a b D F p
       pass p (inl s) = omega (arith, f .passed p s, lifts-up (h .lifts) (g .dst p))
       pass p (inr s) = omega (arith, h .passed p s, lifts-up (f .lifts) (g .src p))
 
@@ -59,13 +65,13 @@ module _ {g : Net} {m : ℕ → ℕ} {a b : ℕ} where
   module _ (small : g .transitions ≤ 122) where
     swept-one :
         {d c h k : List ℕ} {x y : ℕ} (q : ℕ) → q < g .places → g .dst q < g .transitions →
-        Raised (g .src q) (g .dst q) q (b * g .time (g .src q)) (a * m q) d c x h k y →
-        Swept g m a b (_≡ q) 1 (at d) (at c) (at h) (at k) x y
+        Raised (g .src q) (g .dst q) q (b * time (g .src q)) (a * m q) d c x h k y →
+        SweptOver g m time a b (_≡ q) 1 (at d) (at c) (at h) (at k) x y
     swept-one {d} {c} q i l (raised hd hc j) =
         let t = g .dst q in
-        let v = getD d (g .src q) 0 + b * g .time (g .src q) - a * m q in
+        let v = getD d (g .src q) 0 + b * time (g .src q) - a * m q in
         let e : getD (set d t v) t 0 ≡ v = getD-set-same d t v 0 hd in
-        let lift : Lift g m a b q (at d) (at c) (at (set d t v)) (at (set c t (q + 1))) = record {
+        let lift : Lift g m time a b q (at d) (at c) (at (set d t v)) (at (set c t (q + 1))) = record {
           inside = i;
           rise = j;
           new = omega arith;
@@ -74,7 +80,7 @@ module _ {g : Net} {m : ℕ → ℕ} {a b : ℕ} where
           kept = λ u f. getD-set-other c t u (q + 1) 0 f;
         } in
         record {
-          times = 1;
+          rises = 1;
           few = omega arith;
           lifts = more q none lift;
           passed = λ p z. rw z (omega arith);
@@ -82,7 +88,7 @@ module _ {g : Net} {m : ℕ → ℕ} {a b : ℕ} where
           loud = inr (l, omega arith);
         }
     swept-one {d} {c} q i l (kept j) = record {
-      times = 0;
+      rises = 0;
       few = omega arith;
       lifts = none;
       passed = λ p z. rw z j;
@@ -90,15 +96,14 @@ module _ {g : Net} {m : ℕ → ℕ} {a b : ℕ} where
       loud = inl refl;
     }
 
-    -- the same, where the place's ends, gain and cost are given by other words
+    -- the same of a place from s to t
     pub swept-at :
-        {d c h k : List ℕ} {x y : ℕ} (q : ℕ) {s t up down : ℕ} → q < g .places → g .dst q < g .transitions →
-        g .src q ≡ s → g .dst q ≡ t → b * g .time s ≡ up → a * m q ≡ down →
-        Raised s t q up down d c x h k y →
-        Swept g m a b (_≡ q) 1 (at d) (at c) (at h) (at k) x y
-    swept-at {d} {c} {h} {k} {x} {y} q i l es et eu ed w =
-        let z : Raised (g .src q) (g .dst q) q (b * g .time (g .src q)) (a * m q) d c x h k y = rw (es, et, eu, ed) w in
-        swept-one q i l z
+        {d c h k : List ℕ} {x y : ℕ} (q : ℕ) {s t : ℕ} → g .dst q < g .transitions → RunsFrom g q s t →
+        Raised s t q (b * time s) (a * m q) d c x h k y →
+        SweptOver g m time a b (_≡ q) 1 (at d) (at c) (at h) (at k) x y
+    swept-at {d} {c} {h} {k} {x} {y} q l r w =
+        let z : Raised (g .src q) (g .dst q) q (b * time (g .src q)) (a * m q) d c x h k y = rw (r .leaves, r .comes) w in
+        swept-one q (r .place) l z
 
 pub room-more : {top more : ℕ} {d c : List ℕ} → top ≤ more → Room top d c → Room more d c
 room-more h r = record { low = λ v. omega (arith, r .low v); long = r .long; wide = r .wide }

@@ -5,19 +5,19 @@ use Prim.Native.Nat.{_+_, _-_, _<_, _≤_, ℕ}
 use native.Mathlib.Omega.{arith}
 use native.Mathlib.Decide.{ℕ-discrete}
 use Rattle.marked.specs.Net.{Net, Proper}
-use Rattle.tbo.specs.Chains.{Round, Turns, Way, back}
-use Rattle.tbo.proofs.Chains.{back-none, back-step, behind-noted, not-yet, still-noted, turns-in, way-none, way-on}
+use Rattle.tbo.specs.helpers.Chains.{Round, Turns, Way, back}
+use Rattle.tbo.proofs.Ways.{back-none, back-step, behind-noted, not-yet, still-noted, turns-in, way-none, way-on}
 
 -- k steps back from w lead to x, none of them to w.
-pub record Going (g : Net) (m P : ℕ → ℕ) (w x t n k : ℕ) : Type 0 where
+pub record Going (g : Net) (m time P : ℕ → ℕ) (w x t n k : ℕ) : Type 0 where
   pub stands : x ≡ back g P k w
   pub new : (i : ℕ) → 1 ≤ i → i ≤ k → back g P i w ≡ w → ⊥
-  pub way : Way g m P k x w t n
+  pub way : Way g m time P k x w t n
 
-pub going-none : {g : Net} {m P : ℕ → ℕ} {w : ℕ} → Going g m P w w 0 0 0
+pub going-none : {g : Net} {m time P : ℕ → ℕ} {w : ℕ} → Going g m time P w w 0 0 0
 going-none {g} {m} {P} {w} = record { stands = back-none g P w; new = λ i a b e. omega arith; way = way-none w }
 
-module _ {g : Net} {m P : ℕ → ℕ} {w x t n k : ℕ} (r : Turns g P w) (o : Going g m P w x t n k) where
+module _ {g : Net} {m time P : ℕ → ℕ} {w x t n k : ℕ} (r : Turns g P w) (o : Going g m time P w x t n k) where
   pub going-noted : P x ≡ 0 → ⊥
   going-noted e = still-noted r k (o .new) (sym (ap P (o .stands)) ∙ e)
 
@@ -42,14 +42,14 @@ module _ {g : Net} {m P : ℕ → ℕ} {w x t n k : ℕ} (r : Turns g P w) (o : 
   pub going-inside : {q : ℕ} → q ≡ P x → q - 1 < g .places
   going-inside {q} eq = r .notes .inside x (q - 1) (going-place eq)
 
-  module _ {q y u v : ℕ} (eq : q ≡ P x) (ey : y ≡ g .src (q - 1)) (eu : u ≡ g .time y) (ev : v ≡ m (q - 1)) where
-    next : Way g m P (k + 1) y w (t + u) (n + v)
+  module _ {q y u v : ℕ} (eq : q ≡ P x) (ey : y ≡ g .src (q - 1)) (eu : u ≡ time y) (ev : v ≡ m (q - 1)) where
+    next : Way g m time P (k + 1) y w (t + u) (n + v)
     next = rw (eu, ev, ey) (way-on (q - 1) (r .notes) (going-place eq) (o .way))
 
     stands-next : y ≡ back g P (k + 1) w
     stands-next = back-step g P k w x y (o .stands) (ey ∙ behind-noted g x (P x) (q - 1) (going-place eq))
 
-    pub going-on : y ≢ w → Going g m P w y (t + u) (n + v) (k + 1)
+    pub going-on : y ≢ w → Going g m time P w y (t + u) (n + v) (k + 1)
     going-on f = record {
       stands = stands-next;
       new = λ i a b e. elim (ℕ-discrete i (k + 1)) [
@@ -59,5 +59,5 @@ module _ {g : Net} {m P : ℕ → ℕ} {w x t n k : ℕ} (r : Turns g P w) (o : 
       way = next;
     }
 
-    pub going-round : y ≡ w → Round g m P w (t + u) (n + v)
-    going-round e = record { count = k + 1; some = omega arith; few = omega (arith, going-few); way = subst (λ (z : ℕ). Way g m P (k + 1) z w (t + u) (n + v)) e next }
+    pub going-round : y ≡ w → Round g m time P w (t + u) (n + v)
+    going-round e = record { count = k + 1; some = omega arith; few = omega (arith, going-few); way = subst (λ (z : ℕ). Way g m time P (k + 1) z w (t + u) (n + v)) e next }

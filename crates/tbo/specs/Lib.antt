@@ -1,3 +1,2 @@
-pub mod Bounded
-pub mod Chains
-pub mod Judged
+pub mod TBO
+pub mod helpers

@@ -1,6 +1,6 @@
 -- The lists, the search and the writing, one after the other: `handed`.
 use mathlib.Core.Path.{refl}
-use Rattle.circuit.proofs.Handing.{fits, found, handed, noted, sized-headed, sized-linked}
+use Rattle.circuit.proofs.Handing.{all-headed, all-threaded, fits, found, handed, noted}
 use borrow.Author.Needs.{needs}
 use Rattle.circuit.proofs.choose.Statement.{statement}
 use Rattle.circuit.proofs.choose.Tie as tie
@@ -30,29 +30,37 @@ list-tight-requires c κs =
 
 first-requires : tie.Need-first-requires
 first-requires c κs =
-    let start = c .before .before .before .before .before .before .before .before .before .before .before in
-    let list-tight = c .before .before .before .before .before .list-tight in
-    (sized-linked (start .pre .0) (list-tight .ensures), (sized-headed (start .pre .0) (list-tight .ensures), refl))
+    let at-list-tight = c .before .before .before .before .before in
+    let at-slice-known = at-list-tight .before .before .before .before .before in
+    let start = at-slice-known .before in
+    (all-threaded (start .pre .0) (at-list-tight .list-tight .ensures), (all-headed (start .pre .0) (at-list-tight .list-tight .ensures), refl))
 
 hand-out-requires : tie.Need-hand-out-requires
 hand-out-requires c κs =
-    let start = c .before .before .before .before .before .before .before .before .before .before .before .before .before .before .before .before .before in
-    let list-tight = c .before .before .before .before .before .before .before .before .before .before .before .list-tight in
-    let first = c .before .before .before .before .before .first in
-    let listed = list-tight .ensures in
+    let at-first = c .before .before .before .before .before in
+    let at-head2 = at-first .before .before .before .before .before in
+    let at-list-tight = at-head2 .before in
+    let at-slice-known = at-list-tight .before .before .before .before .before in
+    let start = at-slice-known .before in
+    let o = start .pre .0 in
+    let listed = at-list-tight .list-tight .ensures in
     let bound = start .pre .1 .0 in
-    (sized-linked (start .pre .0) listed, ((found (start .pre .0) listed bound (first .ensures), fits (start .pre .0) listed bound (first .ensures), start .pre .1 .1), noted (start .pre .0) listed bound (first .ensures)))
+    let least = at-first .first .ensures in
+    (all-threaded o listed, ((found o listed bound least, fits o listed bound least, start .pre .1 .1), noted o listed bound least))
 
 same-length : tie.Need-same-length
 same-length c = search needs
 
 returns : tie.Need-returns
 returns c =
-    let start = c .before .before .before .before .before .before .before .before .before .before .before .before .before .before .before .before .before .before .before .before in
-    let list-tight = c .before .before .before .before .before .before .before .before .before .before .before .before .before .before .list-tight in
-    let first = c .before .before .before .before .before .before .before .before .first in
-    let hand-out = c .before .before .hand-out in
-    handed (start .pre .0) (list-tight .ensures) (start .pre .1 .0) (first .ensures) (hand-out .ensures)
+    let at-hand-out = c .before .before in
+    let at-next3 = at-hand-out .before .before .before .before .before in
+    let at-first = at-next3 .before in
+    let at-head2 = at-first .before .before .before .before .before in
+    let at-list-tight = at-head2 .before in
+    let at-slice-known = at-list-tight .before .before .before .before .before in
+    let start = at-slice-known .before in
+    handed (start .pre .0) (at-list-tight .list-tight .ensures) (start .pre .1 .0) (at-first .first .ensures) (at-hand-out .hand-out .ensures)
 
 pub choose-spec : {M : Type 1} → statement M
 choose-spec =

@@ -3,16 +3,16 @@ use Prim.Native.Nat.{_+_, _-_, _≤_}
 use mathlib.Core.Path.{sym, subst}
 use native.Mathlib.Omega.{arith}
 use borrow.Author.Needs.{needs}
-use Rattle.order.specs.Items.{Enlisted, Item}
+use Rattle.order.specs.helpers.Items.{Enlisted, Item}
 use Rattle.order.proofs.Sorting.{enlist-none, enlist-on, listed-item}
 use Rattle.order.proofs.enlist.Statement.{statement}
 use Rattle.order.proofs.enlist.Tie as tie
 
 abbrev Inv-loop : tie.InvT-loop
-Inv-loop n e from to mark wait₀ left₀ i₀ wait left i = (i ≤ n + e) × Enlisted n e i left
+Inv-loop n e from to marking wait₀ left₀ i₀ wait left i = (i ≤ n + e) × Enlisted n e i left
 
 abbrev μ-loop : tie.MeasureT-loop
-μ-loop n e from to mark wait₀ left₀ i₀ wait left i = n + e - i
+μ-loop n e from to marking wait₀ left₀ i₀ wait left i = n + e - i
 
 loop-holds : tie.Need-loop-holds Inv-loop μ-loop
 loop-holds c = (omega arith, enlist-none (c .pre .1))

@@ -1,16 +1,16 @@
 -- The invariant: between passes no item is lost.
 use mathlib.Core.Path.{refl}
 use native.Mathlib.Omega.{arith}
-use Rattle.order.specs.Items.{Sorting}
+use Rattle.order.specs.helpers.Items.{Sorting}
 use Rattle.order.proofs.Sorting.{sort-end, sort-left, sort-start}
 use Rattle.order.proofs.order.Statement.{statement}
 use Rattle.order.proofs.order.Tie as tie
 
 abbrev Inv-loop : tie.InvT-loop
-Inv-loop n e from to mark ord₀ wait₀ left₀ l₀ c₀ ord wait left l c = Sorting n e left ord 0 l 0 c
+Inv-loop n e from to marking ord₀ wait₀ left₀ l₀ c₀ ord wait left l c = Sorting n e left ord 0 l 0 c
 
 abbrev μ-loop : tie.MeasureT-loop
-μ-loop n e from to mark ord₀ wait₀ left₀ l₀ c₀ ord wait left l c = l
+μ-loop n e from to marking ord₀ wait₀ left₀ l₀ c₀ ord wait left l c = l
 
 enlist-requires : tie.Need-enlist-requires Inv-loop μ-loop
 enlist-requires c κs = (c .before .before .pre .0, refl)

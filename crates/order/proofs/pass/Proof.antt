@@ -3,16 +3,16 @@ use Prim.Native.Nat.{_-_}
 use native.Mathlib.Omega.{arith}
 use mathlib.Core.Path.{_≡_, refl, _∙_}
 use mathlib.Core.Bool.{true}
-use Rattle.order.specs.Items.{Sorting}
+use Rattle.order.specs.helpers.Items.{Sorting}
 use Rattle.order.proofs.Sorting.{sort-again}
 use Rattle.order.proofs.pass.Statement.{statement}
 use Rattle.order.proofs.pass.Tie as tie
 
 abbrev Inv-loop : tie.InvT-loop
-Inv-loop n e from to mark force l c wait₀ left₀ ord₀ m₀ p₀ i₀ wait left ord m p i = Sorting n e left ord i l m p × (force ≡ true → m ≡ 0)
+Inv-loop n e from to marking force l c wait₀ left₀ ord₀ m₀ p₀ i₀ wait left ord m p i = Sorting n e left ord i l m p × (force ≡ true → m ≡ 0)
 
 abbrev μ-loop : tie.MeasureT-loop
-μ-loop n e from to mark force l c wait₀ left₀ ord₀ m₀ p₀ i₀ wait left ord m p i = l - i
+μ-loop n e from to marking force l c wait₀ left₀ ord₀ m₀ p₀ i₀ wait left ord m p i = l - i
 
 loop-holds : tie.Need-loop-holds Inv-loop μ-loop
 loop-holds c = (c .pre .1, λ z. refl)

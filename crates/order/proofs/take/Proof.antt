@@ -2,7 +2,7 @@
 use mathlib.Core.Path.{refl, sym, subst, _∙_}
 use mathlib.Core.Bool.{true≢false}
 use native.Mathlib.Omega.{arith}
-use Rattle.order.specs.Items.{Item}
+use Rattle.order.specs.helpers.Items.{Item}
 use Rattle.order.proofs.Sorting.{room-next, sort-item, sort-kept, sort-put}
 use borrow.Author.Needs.{needs}
 use Rattle.order.proofs.take.Statement.{statement}

@@ -2,7 +2,7 @@
 use mathlib.Core.Path.{_∙_, sym}
 use native.Mathlib.Omega.{arith}
 use borrow.Author.Needs.{needs}
-use Rattle.search.specs.Turns.{Under}
+use Rattle.search.specs.helpers.Turns.{Under}
 use Rattle.search.proofs.Turning.{left, left-less, outcome-at, outcome-gone, outcome-got, sought-no, sought-yes, under-start}
 use Rattle.search.proofs.search.Statement.{statement}
 use Rattle.search.proofs.search.Tie as tie

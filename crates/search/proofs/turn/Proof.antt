@@ -1,7 +1,7 @@
 -- Each branch is one move of the search.
 use mathlib.Core.Path.{sym}
 use native.Mathlib.Omega.{arith}
-use Rattle.search.specs.Turns.Outcome.{gone, got, moved}
+use Rattle.search.specs.helpers.Turns.MoveEnds.{gone, got, moved}
 use Rattle.search.proofs.Turning.{arrive, beyond, further, go-on, leads-in, less, no-way, noted-place, pass, stands, step-back, still}
 use borrow.Author.Needs.{needs}
 use Rattle.search.proofs.turn.Statement.{statement}

@@ -1,10 +1,13 @@
--- Two raises, each of a place whose ends and tokens are known: `edge-swept`.
+-- Two raises, each of a place whose ends are known: `edge-swept`.
+use Rattle.sweep.proofs.Tries.{edge-swept}
+use Rattle.sweep.proofs.Sweeping.{room-more, room-raised}
+use Rattle.fraction.proofs.Loads.{edge-runs, place-gain, place-time, place-tokens, place-within}
+use Rattle.fraction.specs.helpers.Loaded.{highest, mostTime}
+use Prim.Native.Nat.{_*_}
 use Prim.Native.Nat.{ℕ, _*_}
 use mathlib.Core.Path.{_∙_, ap}
 use native.Mathlib.Omega.{arith}
 use denote.Ref.{now}
-use Rattle.sweep.proofs.Sweeping.{room-more, room-raised}
-use Rattle.sweep.proofs.Tries.{edge-swept}
 use borrow.Author.Needs.{needs}
 use Rattle.sweep.proofs.raise_edge.Statement.{statement}
 use Rattle.sweep.proofs.raise_edge.Tie as tie
@@ -28,46 +31,42 @@ element-copy-out-read-of : tie.Need-element-copy-out-read-of
 element-copy-out-read-of c = search needs
 
 read-of-requires : tie.Need-read-of-requires
-read-of-requires c κs = c .before .before .before .pre .0 .enters _ (c .before .before .before .pre .1 .0 .0)
-
-element-copy-out-paid : tie.Need-element-copy-out-paid
-element-copy-out-paid c = search needs
-
-paid-requires : tie.Need-paid-requires
-paid-requires c κs = search needs
-
-element-copy-out-empty-of : tie.Need-element-copy-out-empty-of
-element-copy-out-empty-of c = search needs
-
-empty-of-requires : tie.Need-empty-of-requires
-empty-of-requires c κs = search needs
-
-paid-requires-2 : tie.Need-paid-requires-2
-paid-requires-2 c κs = search needs
+read-of-requires c κs =
+    let start = c .before .before .before in
+    start .pre .0 .wired .enters _ (start .pre .1 .0 .0)
 
 raise-requires : tie.Need-raise-requires
 raise-requires c κs =
-    let start = c .before .before .before .before .before .before .before .before .before .before .before in
-    (omega (arith, start .pre .0 .leaves _ (start .pre .1 .0 .0), start .pre .0 .ends _ (start .pre .1 .0 .0)), room-more (omega arith) (start .pre .1 .1))
+    let at-read-of = c .before .before in
+    let at-write-of = at-read-of .before .before in
+    let start = at-write-of .before .before in
+    let o = start .pre .0 in
+    let few = start .pre .1 .0 .1 in
+    let run = edge-runs o (start .pre .1 .0 .0) (at-write-of .write-of .ensures .is) (at-read-of .read-of .ensures .is) .0 in
+    (place-within o run, ((place-time o run, place-tokens o run, few), room-more (omega arith) (start .pre .1 .1)))
 
 add-raise : tie.Need-add-raise
 add-raise c = search needs
 
 raise-requires-2 : tie.Need-raise-requires-2
 raise-requires-2 c κs =
-    let start = c .before .before .before .before .before .before .before .before .before .before .before .before .before .before in
-    (omega (arith, start .pre .0 .leaves _ (start .pre .1 .0 .0), start .pre .0 .ends _ (start .pre .1 .0 .0)), room-more (omega arith) (room-raised 1500000000000000000 1000000000 (omega arith) (start .pre .1 .1) (c .before .before .raise .ensures)))
+    let at-raise = c .before .before in
+    let at-read-of = at-raise .before .before .before in
+    let at-write-of = at-read-of .before .before in
+    let start = at-write-of .before .before in
+    let o = start .pre .0 in
+    let few = start .pre .1 .0 .1 in
+    let runs = edge-runs o (start .pre .1 .0 .0) (at-write-of .write-of .ensures .is) (at-read-of .read-of .ensures .is) in
+    let room = room-raised (2 * highest) mostTime (place-gain o (runs .0) few) (start .pre .1 .1) (at-raise .raise .ensures) in
+    (place-within o (runs .1), ((place-time o (runs .1), place-tokens o (runs .1), few), room-more (omega arith) room))
 
 returns : tie.Need-returns
 returns c =
-    let start = c .before .before .before .before .before .before .before .before .before .before .before .before .before .before .before in
-    let write-of = c .before .before .before .before .before .before .before .before .before .before .before .before .before .write-of in
-    let read-of = c .before .before .before .before .before .before .before .before .before .before .before .read-of in
-    let paid = c .before .before .before .before .before .before .before .before .before .paid in
-    let empty-of = c .before .before .before .before .before .before .before .empty-of in
-    let paid2 = c .before .before .before .before .before .before .paid2 in
-    let raise = c .before .before .before .raise in
-    edge-swept (now (start .args .from)) (now (start .args .to)) (now (start .args .mark)) (start .pre .0) (start .pre .1 .0 .0) (write-of .ensures .is) (read-of .ensures .is) (paid .ensures .0) (paid2 .ensures .0 ∙ ap (λ (z : ℕ). start .args .a * z) (empty-of .ensures .is)) (raise .ensures) (c .raise2 .ensures)
+    let at-raise = c .before .before .before in
+    let at-read-of = at-raise .before .before .before in
+    let at-write-of = at-read-of .before .before in
+    let start = at-write-of .before .before in
+    edge-swept (start .pre .0) (start .pre .1 .0 .0) (at-write-of .write-of .ensures .is) (at-read-of .read-of .ensures .is) (at-raise .raise .ensures) (c .raise2 .ensures)
 
 pub raise-edge-spec : {M : Type 1} → statement M
 raise-edge-spec =
@@ -80,11 +79,6 @@ raise-edge-spec =
     write-of-requires
     element-copy-out-read-of
     read-of-requires
-    element-copy-out-paid
-    paid-requires
-    element-copy-out-empty-of
-    empty-of-requires
-    paid-requires-2
     raise-requires
     add-raise
     raise-requires-2

@@ -1,23 +1,17 @@
--- Three raises, each of a place whose ends, time and tokens are known: `op-swept`.
+-- Three raises, each of a place whose ends are known: `op-swept`.
+use Rattle.sweep.proofs.Tries.{op-swept}
+use Rattle.sweep.proofs.Sweeping.{room-more, room-raised}
+use Rattle.fraction.proofs.Loads.{place-gain, place-time, place-tokens, place-within, row-runs}
+use Rattle.fraction.specs.helpers.Loaded.{highest, mostTime}
+use Prim.Native.Nat.{_*_, _+_}
 use native.Mathlib.Omega.{arith}
 use denote.Ref.{now}
-use Rattle.sweep.proofs.Sweeping.{room-more, room-raised}
-use Rattle.sweep.proofs.Tries.{op-swept}
 use borrow.Author.Needs.{needs}
 use Rattle.sweep.proofs.raise_op.Statement.{statement}
 use Rattle.sweep.proofs.raise_op.Tie as tie
 
 mul-p : tie.Need-mul-p
 mul-p c = search needs
-
-mul-gained : tie.Need-mul-gained
-mul-gained c = search needs
-
-element-copy-out-gained : tie.Need-element-copy-out-gained
-element-copy-out-gained c = search needs
-
-gained-requires : tie.Need-gained-requires
-gained-requires c κs = search needs
 
 add-raise : tie.Need-add-raise
 add-raise c = search needs
@@ -26,7 +20,12 @@ add-raise-2 : tie.Need-add-raise-2
 add-raise-2 c = search needs
 
 raise-requires : tie.Need-raise-requires
-raise-requires c κs = (omega arith, room-more (omega arith) (c .before .before .before .before .pre .1 .1))
+raise-requires c κs =
+    let start = c .before .before in
+    let o = start .pre .0 in
+    let few = start .pre .1 .0 .1 in
+    let run = row-runs o (start .pre .1 .0 .0) .0 in
+    (place-within o run, ((place-time o run, place-tokens o run, few), room-more (omega arith) (start .pre .1 .1)))
 
 add-raise-3 : tie.Need-add-raise-3
 add-raise-3 c = search needs
@@ -39,9 +38,13 @@ add-raise-5 c = search needs
 
 raise-requires-2 : tie.Need-raise-requires-2
 raise-requires-2 c κs =
-    let start = c .before .before .before .before .before .before .before in
-    let raise = c .before .before .raise in
-    (omega arith, room-more (omega arith) (room-raised 1500000000000000000 1000000000 (omega arith) (start .pre .1 .1) (raise .ensures)))
+    let at-raise = c .before .before in
+    let start = at-raise .before .before .before in
+    let o = start .pre .0 in
+    let few = start .pre .1 .0 .1 in
+    let runs = row-runs o (start .pre .1 .0 .0) in
+    let room = room-raised (2 * highest) mostTime (place-gain o (runs .0) few) (start .pre .1 .1) (at-raise .raise .ensures) in
+    (place-within o (runs .1), ((place-time o (runs .1), place-tokens o (runs .1), few), room-more (omega arith) room))
 
 add-raise-6 : tie.Need-add-raise-6
 add-raise-6 c = search needs
@@ -54,27 +57,28 @@ add-raise-8 c = search needs
 
 raise-requires-3 : tie.Need-raise-requires-3
 raise-requires-3 c κs =
-    let start = c .before .before .before .before .before .before .before .before .before .before in
-    let raise = c .before .before .before .before .before .raise in
-    let raise2 = c .before .before .raise2 in
-    (omega arith, room-more (omega arith) (room-raised 1500000001000000000 1000000000 (omega arith) (room-raised 1500000000000000000 1000000000 (omega arith) (start .pre .1 .1) (raise .ensures)) (raise2 .ensures)))
+    let at-raise2 = c .before .before in
+    let at-raise = at-raise2 .before .before .before in
+    let start = at-raise .before .before .before in
+    let o = start .pre .0 in
+    let few = start .pre .1 .0 .1 in
+    let runs = row-runs o (start .pre .1 .0 .0) in
+    let once = room-raised (2 * highest) mostTime (place-gain o (runs .0) few) (start .pre .1 .1) (at-raise .raise .ensures) in
+    let twice = room-raised (2 * highest + mostTime) mostTime (place-gain o (runs .1) few) once (at-raise2 .raise2 .ensures) in
+    (place-within o (runs .2), ((place-time o (runs .2), place-tokens o (runs .2), few), room-more (omega arith) twice))
 
 returns : tie.Need-returns
 returns c =
-    let start = c .before .before .before .before .before .before .before .before .before .before .before in
-    let gained = c .before .before .before .before .before .before .before .before .before .gained in
-    let raise = c .before .before .before .before .before .before .raise in
-    let raise2 = c .before .before .before .raise2 in
-    op-swept (now (start .args .times)) (omega arith) (omega arith) (gained .ensures .0) (raise .ensures) (raise2 .ensures) (c .raise3 .ensures)
+    let at-raise2 = c .before .before .before in
+    let at-raise = at-raise2 .before .before .before in
+    let start = at-raise .before .before .before in
+    op-swept (start .pre .0) (start .pre .1 .0 .0) (at-raise .raise .ensures) (at-raise2 .raise2 .ensures) (c .raise3 .ensures)
 
 pub raise-op-spec : {M : Type 1} → statement M
 raise-op-spec =
     tie.close
     (tie.spec
     mul-p
-    mul-gained
-    element-copy-out-gained
-    gained-requires
     add-raise
     add-raise-2
     raise-requires

@@ -6,7 +6,7 @@ use Rattle.tbo.proofs.clear.Statement.{statement}
 use Rattle.tbo.proofs.clear.Tie as tie
 
 returns : tie.Need-returns
-returns c = (refl, λ v. omega (arith, zeros 122 v))
+returns c = record { low = λ v. omega (arith, zeros 122 v); long = refl }
 
 pub clear-spec : {M : Type 1} → statement M
 clear-spec = tie.close (tie.spec returns)

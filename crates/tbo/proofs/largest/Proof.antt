@@ -4,73 +4,92 @@ use borrow.Author.Needs.{needs}
 use mathlib.Core.Path.{refl}
 use denote.Ref.{now}
 use native.Mathlib.Omega.{arith}
-use Rattle.net.specs.Graph.{netOf, startOf}
-use Rattle.net.specs.Plan.{rows}
-use Rattle.tbo.specs.Chains.{Tour}
-use Rattle.tbo.proofs.Attained.{bounded-of, left, nearer-of, pair-of, ring-tour, verdict-better}
+use Rattle.marked.specs.Net.{at}
+use Rattle.net.specs.Graph.{netOf}
+use Rattle.net.specs.Plan.{wires}
+use Rattle.tbo.specs.helpers.Chains.{Tour}
+use Rattle.tbo.proofs.Attained.{improves-better, largest-by, left, nearer-of, pair-of, ring-tour}
 use Rattle.tbo.proofs.largest.Statement.{statement}
 use Rattle.tbo.proofs.largest.Tie as tie
 
 abbrev Inv-loop : tie.InvT-loop
-Inv-loop n e times from to mark d₀ ord i a₀ b₀ d a b = Tour (netOf (rows n e times from to mark)) (startOf (rows n e times from to mark)) a b
+Inv-loop n e from to marking times d₀ ord i a₀ b₀ d a b = Tour (netOf (wires n e from to)) (at marking) (at times) a b
 
 abbrev μ-loop : tie.MeasureT-loop
-μ-loop n e times from to mark d₀ ord i a₀ b₀ d a b = left (3 * n + 2) a b
+μ-loop n e from to marking times d₀ ord i a₀ b₀ d a b = left (3 * n + 2) a b
 
 order-requires : tie.Need-order-requires Inv-loop μ-loop
-order-requires c κs = (c .before .pre .0 .valid, refl)
+order-requires c κs =
+    let start = c .before in
+    (start .pre .0 .wired, refl)
 
 slowest-requires : tie.Need-slowest-requires Inv-loop μ-loop
-slowest-requires c κs = (c .before .before .pre .0 .some, c .before .before .pre .0 .valid .operations)
+slowest-requires c κs =
+    let start = c .before .before in
+    (start .pre .0 .wired .some, start .pre .0 .wired .operations)
 
-mul-wide : tie.Need-mul-wide Inv-loop μ-loop
-mul-wide c = omega (arith, c .before .before .before .pre .0 .valid .operations)
+ring-time-requires : tie.Need-ring-time-requires Inv-loop μ-loop
+ring-time-requires c κs =
+    let start = c .before .before .before in
+    omega (arith, start .pre .0 .wired .operations)
 
-element-copy-out-wide : tie.Need-element-copy-out-wide Inv-loop μ-loop
-element-copy-out-wide c = omega (arith, c .before .before .before .pre .0 .valid .operations)
-
-wide-requires : tie.Need-wide-requires Inv-loop μ-loop
-wide-requires c κs = tt
+ring-tokens-requires : tie.Need-ring-tokens-requires Inv-loop μ-loop
+ring-tokens-requires c κs =
+    let start = c .before .before .before .before in
+    omega (arith, start .pre .0 .wired .operations)
 
 loop-holds : tie.Need-loop-holds Inv-loop μ-loop
 loop-holds c =
-    let start = c .before .before .before .before .before in
-    let slowest = c .before .before .slowest in
-    rw (c .wide .ensures) (ring-tour (start .args .e) (now (start .args .times)) (now (start .args .from)) (now (start .args .to)) (now (start .args .mark)) (slowest .ensures))
+    let at-ring-time = c .before in
+    let at-slowest = at-ring-time .before in
+    let start = at-slowest .before .before .before in
+    rw (at-ring-time .ring-time .ensures, c .ring-tokens .ensures) (ring-tour (start .pre .0) (at-slowest .slowest .ensures))
 
 clear-requires : tie.Need-clear-requires Inv-loop μ-loop
 clear-requires c κs = tt
 
 improve-requires : tie.Need-improve-requires Inv-loop μ-loop
 improve-requires c κs =
-    let start = c .before .before .before .before .before .before .before .before .before .before in
-    let turn = c .before .before .before .before in
-    let order = c .before .before .before .before .before .before .before .before .order in
-    let clear = c .before .before .clear in
-    (start .pre .0, ((order .ensures, pair-of (start .pre .0) (turn .loop .inv)), record { low = λ v. omega (arith, clear .ensures .1 v); long = clear .ensures .0 }))
+    let at-clear = c .before .before in
+    let at-loop = at-clear .before .before in
+    let at-order = at-loop .before .before .before .before in
+    let start = at-order .before .before in
+    (
+    start .pre .0,
+    (
+    (at-order .order .ensures, pair-of (start .pre .0) (at-loop .loop .inv)),
+    record { low = λ v. omega (arith, at-clear .clear .ensures .low v); long = at-clear .clear .ensures .long }
+    )
+    )
 
 enum-told : tie.Need-enum-told Inv-loop μ-loop
 enum-told c = search needs
 
 returns : tie.Need-returns Inv-loop μ-loop
 returns c =
-    let start = c .before .before .before .before .before .before .before .before .before .before .before .before .before in
-    let turn = c .before .before .before .before .before .before .before in
-    let improve = c .before .before .improve in
-    bounded-of (start .pre .0) (start .pre .1) (turn .loop .inv) (improve .ensures) (c .enum-told .given .1)
+    let at-improve = c .before .before in
+    let at-loop = at-improve .before .before .before .before .before in
+    let at-ord = at-loop .before .before .before .before .before in
+    let start = at-ord .before in
+    largest-by (start .pre .0) (at-loop .loop .inv) (start .pre .1) (at-improve .improve .ensures) (c .enum-told .given .1)
 
 enum-known-f : tie.Need-enum-known-f Inv-loop μ-loop
 enum-known-f c = search needs
 
 loop-less : tie.Need-loop-less Inv-loop μ-loop
 loop-less c =
-    let start = c .before .before .before .before .before .before .before .before .before .before .before .before .before .before in
-    let turn = c .before .before .before .before .before .before .before .before in
-    let improve = c .before .before .before .improve in
-    nearer-of (start .pre .0) (start .pre .1) (turn .loop .inv) (improve .ensures) (c .before .f .given .1)
+    let at-f = c .before in
+    let at-improve = at-f .before .before in
+    let at-loop = at-improve .before .before .before .before .before in
+    let at-ord = at-loop .before .before .before .before .before in
+    let start = at-ord .before in
+    nearer-of (start .pre .0) (at-loop .loop .inv) (start .pre .1) (at-improve .improve .ensures) (at-f .f .given .1)
 
 loop-again : tie.Need-loop-again Inv-loop μ-loop
-loop-again c = verdict-better (c .before .before .before .improve .ensures .verdict) (c .before .f .given .1) .0
+loop-again c =
+    let at-f = c .before in
+    let at-improve = at-f .before .before in
+    improves-better (at-improve .improve .ensures .improves) (at-f .f .given .1) .0
 
 pub largest-spec : {M : Type 1} → statement M
 largest-spec =
@@ -80,9 +99,8 @@ largest-spec =
     μ-loop
     order-requires
     slowest-requires
-    mul-wide
-    element-copy-out-wide
-    wide-requires
+    ring-time-requires
+    ring-tokens-requires
     loop-holds
     clear-requires
     improve-requires

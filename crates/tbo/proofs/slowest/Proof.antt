@@ -6,25 +6,19 @@ use Rattle.tbo.proofs.slowest.Statement.{statement}
 use Rattle.tbo.proofs.slowest.Tie as tie
 
 abbrev Inv-loop : tie.InvT-loop
-Inv-loop n times best₀ i₀ best i = (i ≤ n) × (best < n)
+Inv-loop n times best₀ most₀ i₀ best most i = (i ≤ n) × (best < n)
 
 abbrev μ-loop : tie.MeasureT-loop
-μ-loop n times best₀ i₀ best i = n - i
+μ-loop n times best₀ most₀ i₀ best most i = n - i
+
+ring-time-requires : tie.Need-ring-time-requires Inv-loop μ-loop
+ring-time-requires c κs = omega arith
 
 loop-holds : tie.Need-loop-holds Inv-loop μ-loop
 loop-holds c = omega arith
 
-mul-if1 : tie.Need-mul-if1 Inv-loop μ-loop
-mul-if1 c = omega arith
-
-element-copy-out-if1 : tie.Need-element-copy-out-if1 Inv-loop μ-loop
-element-copy-out-if1 c = omega arith
-
-mul-if1-2 : tie.Need-mul-if1-2 Inv-loop μ-loop
-mul-if1-2 c = omega arith
-
-element-copy-out-if1-2 : tie.Need-element-copy-out-if1-2 Inv-loop μ-loop
-element-copy-out-if1-2 c = omega arith
+ring-time-requires-2 : tie.Need-ring-time-requires-2 Inv-loop μ-loop
+ring-time-requires-2 c κs = omega arith
 
 add-i : tie.Need-add-i Inv-loop μ-loop
 add-i c = omega arith
@@ -44,11 +38,9 @@ slowest-spec =
     (tie.spec
     Inv-loop
     μ-loop
+    ring-time-requires
     loop-holds
-    mul-if1
-    element-copy-out-if1
-    mul-if1-2
-    element-copy-out-if1-2
+    ring-time-requires-2
     add-i
     loop-less
     loop-again

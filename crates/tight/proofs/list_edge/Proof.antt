@@ -1,13 +1,14 @@
--- Two places, each with known ends and tokens: `edge-listed`.
+-- Two places, each with known ends: `edge-listed`.
+use Rattle.tight.proofs.Listings.{whole-drawn}
+use Rattle.tight.proofs.ListRows.{edge-listed}
+use Rattle.fraction.proofs.Loads.{edge-runs, place-time, place-tokens, place-within}
+use Rattle.tight.proofs.list_edge.Statement.{statement}
+use Rattle.tight.proofs.list_edge.Tie as tie
 use Prim.Native.Nat.{ℕ, _*_}
 use mathlib.Core.Path.{_∙_, ap}
 use denote.Ref.{now}
 use native.Mathlib.Omega.{arith}
-use Rattle.tight.proofs.ListRows.{edge-listed}
-use Rattle.tight.proofs.Listings.{whole-drawn}
 use borrow.Author.Needs.{needs}
-use Rattle.tight.proofs.list_edge.Statement.{statement}
-use Rattle.tight.proofs.list_edge.Tie as tie
 
 mul-p : tie.Need-mul-p
 mul-p c = search needs
@@ -28,53 +29,41 @@ element-copy-out-read-of : tie.Need-element-copy-out-read-of
 element-copy-out-read-of c = search needs
 
 read-of-requires : tie.Need-read-of-requires
-read-of-requires c κs = c .before .before .before .pre .0 .enters _ (c .before .before .before .pre .1 .0 .0)
-
-element-copy-out-paid : tie.Need-element-copy-out-paid
-element-copy-out-paid c = search needs
-
-paid-requires : tie.Need-paid-requires
-paid-requires c κs = search needs
-
-element-copy-out-empty-of : tie.Need-element-copy-out-empty-of
-element-copy-out-empty-of c = search needs
-
-empty-of-requires : tie.Need-empty-of-requires
-empty-of-requires c κs = search needs
-
-paid-requires-2 : tie.Need-paid-requires-2
-paid-requires-2 c κs = search needs
+read-of-requires c κs =
+    let start = c .before .before .before in
+    start .pre .0 .wired .enters _ (start .pre .1 .0 .0)
 
 add-list-place : tie.Need-add-list-place
 add-list-place c = search needs
 
 list-place-requires : tie.Need-list-place-requires
 list-place-requires c κs =
-    let start = c .before .before .before .before .before .before .before .before .before .before .before .before .before in
-    let write-of = c .before .before .before .before .before .before .before .before .before .before .before .write-of in
-    let read-of = c .before .before .before .before .before .before .before .before .before .read-of in
-    let paid2 = c .before .before .before .before .paid2 in
-    (omega (arith, start .pre .0 .operations, start .pre .0 .edges, start .pre .0 .leaves _ (start .pre .1 .0 .0), start .pre .0 .ends _ (start .pre .1 .0 .0), write-of .ensures .is, read-of .ensures .is, paid2 .ensures .1), (start .pre .1 .1 .0, start .pre .1 .1 .1))
+    let at-read-of = c .before .before .before .before in
+    let at-write-of = at-read-of .before .before in
+    let start = at-write-of .before .before in
+    let o = start .pre .0 in
+    let run = edge-runs o (start .pre .1 .0 .0) (at-write-of .write-of .ensures .is) (at-read-of .read-of .ensures .is) .1 in
+    (place-within o run, ((place-time o run, place-tokens o run, start .pre .1 .0 .1, start .pre .1 .0 .2), start .pre .1 .1))
 
 list-place-requires-2 : tie.Need-list-place-requires-2
 list-place-requires-2 c κs =
-    let start = c .before .before .before .before .before .before .before .before .before .before .before .before .before .before .before .before .before .before in
-    let write-of = c .before .before .before .before .before .before .before .before .before .before .before .before .before .before .before .before .write-of in
-    let read-of = c .before .before .before .before .before .before .before .before .before .before .before .before .before .before .read-of in
-    let paid = c .before .before .before .before .before .before .before .before .before .before .before .before .paid in
-    let list-place = c .before .before .before .before .list-place in
-    (omega (arith, start .pre .0 .operations, start .pre .0 .edges, start .pre .0 .leaves _ (start .pre .1 .0 .0), start .pre .0 .ends _ (start .pre .1 .0 .0), write-of .ensures .is, read-of .ensures .is, paid .ensures .1), (start .pre .1 .1 .0, whole-drawn (start .pre .1 .1 .1) (list-place .ensures)))
+    let at-list-place = c .before .before .before .before in
+    let at-read-of = at-list-place .before .before .before .before .before in
+    let at-write-of = at-read-of .before .before in
+    let start = at-write-of .before .before in
+    let o = start .pre .0 in
+    let run = edge-runs o (start .pre .1 .0 .0) (at-write-of .write-of .ensures .is) (at-read-of .read-of .ensures .is) .0 in
+    let whole = whole-drawn (start .pre .1 .1) (at-list-place .list-place .ensures) in
+    (place-within o run, ((place-time o run, place-tokens o run, start .pre .1 .0 .1, start .pre .1 .0 .2), whole))
 
 returns : tie.Need-returns
 returns c =
-    let start = c .before .before .before .before .before .before .before .before .before .before .before .before .before .before .before .before .before .before .before in
-    let write-of = c .before .before .before .before .before .before .before .before .before .before .before .before .before .before .before .before .before .write-of in
-    let read-of = c .before .before .before .before .before .before .before .before .before .before .before .before .before .before .before .read-of in
-    let paid = c .before .before .before .before .before .before .before .before .before .before .before .before .before .paid in
-    let empty-of = c .before .before .before .before .before .before .before .before .before .before .before .empty-of in
-    let paid2 = c .before .before .before .before .before .before .before .before .before .before .paid2 in
-    let list-place = c .before .before .before .before .before .list-place in
-    edge-listed (now (start .args .from)) (now (start .args .to)) (now (start .args .mark)) (start .pre .0) (start .pre .1 .0 .0) (write-of .ensures .is) (read-of .ensures .is) (paid .ensures .0) (paid2 .ensures .0 ∙ ap (λ (z : ℕ). start .args .a * z) (empty-of .ensures .is)) (start .pre .1 .1 .1) (list-place .ensures) (c .list-place2 .ensures)
+    let at-list-place = c .before .before .before .before .before in
+    let at-read-of = at-list-place .before .before .before .before .before in
+    let at-write-of = at-read-of .before .before in
+    let start = at-write-of .before .before in
+    let ends = start .pre .1 .0 .0 in
+    edge-listed (start .pre .0) ends (at-write-of .write-of .ensures .is) (at-read-of .read-of .ensures .is) (start .pre .1 .1) (at-list-place .list-place .ensures) (c .list-place2 .ensures)
 
 pub list-edge-spec : {M : Type 1} → statement M
 list-edge-spec =
@@ -87,11 +76,6 @@ list-edge-spec =
     write-of-requires
     element-copy-out-read-of
     read-of-requires
-    element-copy-out-paid
-    paid-requires
-    element-copy-out-empty-of
-    empty-of-requires
-    paid-requires-2
     add-list-place
     list-place-requires
     list-place-requires-2

@@ -1,23 +1,15 @@
--- Three places, each with known ends, time and tokens: `op-listed`.
-use denote.Ref.{now}
-use native.Mathlib.Omega.{arith}
-use Rattle.tight.proofs.ListRows.{op-listed}
+-- Three places, each with known ends: `op-listed`.
 use Rattle.tight.proofs.Listings.{whole-drawn}
-use borrow.Author.Needs.{needs}
+use Rattle.tight.proofs.ListRows.{op-listed}
+use Rattle.fraction.proofs.Loads.{place-time, place-tokens, place-within, row-runs}
 use Rattle.tight.proofs.list_op.Statement.{statement}
 use Rattle.tight.proofs.list_op.Tie as tie
+use denote.Ref.{now}
+use native.Mathlib.Omega.{arith}
+use borrow.Author.Needs.{needs}
 
 mul-p : tie.Need-mul-p
 mul-p c = search needs
-
-mul-gained : tie.Need-mul-gained
-mul-gained c = search needs
-
-element-copy-out-gained : tie.Need-element-copy-out-gained
-element-copy-out-gained c = search needs
-
-gained-requires : tie.Need-gained-requires
-gained-requires c κs = search needs
 
 add-list-place : tie.Need-add-list-place
 add-list-place c = search needs
@@ -29,7 +21,11 @@ add-list-place-3 : tie.Need-add-list-place-3
 add-list-place-3 c = search needs
 
 list-place-requires : tie.Need-list-place-requires
-list-place-requires c κs = (omega arith, (c .before .before .before .before .before .before .pre .1 .0, c .before .before .before .before .before .before .pre .1 .1))
+list-place-requires c κs =
+    let start = c .before .before .before .before in
+    let o = start .pre .0 in
+    let run = row-runs o (start .pre .1 .0 .0) .2 in
+    (place-within o run, ((place-time o run, place-tokens o run, start .pre .1 .0 .1, start .pre .1 .0 .2), start .pre .1 .1))
 
 add-list-place-4 : tie.Need-add-list-place-4
 add-list-place-4 c = search needs
@@ -42,9 +38,12 @@ add-list-place-6 c = search needs
 
 list-place-requires-2 : tie.Need-list-place-requires-2
 list-place-requires-2 c κs =
-    let start = c .before .before .before .before .before .before .before .before .before .before .before in
-    let list-place = c .before .before .before .before .list-place in
-    (omega arith, (start .pre .1 .0, whole-drawn (start .pre .1 .1) (list-place .ensures)))
+    let at-list-place = c .before .before .before .before in
+    let start = at-list-place .before .before .before .before .before in
+    let o = start .pre .0 in
+    let run = row-runs o (start .pre .1 .0 .0) .1 in
+    let whole = whole-drawn (start .pre .1 .1) (at-list-place .list-place .ensures) in
+    (place-within o run, ((place-time o run, place-tokens o run, start .pre .1 .0 .1, start .pre .1 .0 .2), whole))
 
 add-list-place-7 : tie.Need-add-list-place-7
 add-list-place-7 c = search needs
@@ -54,27 +53,26 @@ add-list-place-8 c = search needs
 
 list-place-requires-3 : tie.Need-list-place-requires-3
 list-place-requires-3 c κs =
-    let start = c .before .before .before .before .before .before .before .before .before .before .before .before .before .before .before .before in
-    let list-place = c .before .before .before .before .before .before .before .before .before .list-place in
-    let list-place2 = c .before .before .before .before .list-place2 in
-    (omega arith, (start .pre .1 .0, whole-drawn (whole-drawn (start .pre .1 .1) (list-place .ensures)) (list-place2 .ensures)))
+    let at-list-place2 = c .before .before .before .before in
+    let at-list-place = at-list-place2 .before .before .before .before .before in
+    let start = at-list-place .before .before .before .before .before in
+    let o = start .pre .0 in
+    let run = row-runs o (start .pre .1 .0 .0) .0 in
+    let whole = whole-drawn (whole-drawn (start .pre .1 .1) (at-list-place .list-place .ensures)) (at-list-place2 .list-place2 .ensures) in
+    (place-within o run, ((place-time o run, place-tokens o run, start .pre .1 .0 .1, start .pre .1 .0 .2), whole))
 
 returns : tie.Need-returns
 returns c =
-    let start = c .before .before .before .before .before .before .before .before .before .before .before .before .before .before .before .before .before in
-    let gained = c .before .before .before .before .before .before .before .before .before .before .before .before .before .before .before .gained in
-    let list-place = c .before .before .before .before .before .before .before .before .before .before .list-place in
-    let list-place2 = c .before .before .before .before .before .list-place2 in
-    op-listed (now (start .args .times)) (start .pre .0 .0) (start .pre .0 .1) (gained .ensures .0) (start .pre .1 .1) (list-place .ensures) (list-place2 .ensures) (c .list-place3 .ensures)
+    let at-list-place2 = c .before .before .before .before .before in
+    let at-list-place = at-list-place2 .before .before .before .before .before in
+    let start = at-list-place .before .before .before .before .before in
+    op-listed (start .pre .0) (start .pre .1 .0 .0) (start .pre .1 .1) (at-list-place .list-place .ensures) (at-list-place2 .list-place2 .ensures) (c .list-place3 .ensures)
 
 pub list-op-spec : {M : Type 1} → statement M
 list-op-spec =
     tie.close
     (tie.spec
     mul-p
-    mul-gained
-    element-copy-out-gained
-    gained-requires
     add-list-place
     add-list-place-2
     add-list-place-3

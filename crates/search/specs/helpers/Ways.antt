@@ -1,4 +1,4 @@
--- Helper words of the ordered depth-first search for the first way from root to goal along places of T. No public promise speaks of them.
+-- The ordered depth-first search for the first way from root to goal along places of T.
 use mathlib.Core.Path.{_≡_}
 use mathlib.Core.Logic.{_≢_, _⊎_}
 use mathlib.Core.List.{List, [], _++_, _∷_}
@@ -48,7 +48,7 @@ module _ (g : Net) (T : ℕ → Type 0) (root goal : ℕ) where
     step : {ts : List ℕ} (q : ℕ) → Trace N (g .src q) ts → q < g .places → T q → N (g .dst q) ≡ q + 1 → Trace N (g .dst q) (ts ++ (q ∷ []))
 
   -- The first way, noted in N.
-  pub record Noted (N : ℕ → ℕ) : Type 0 where
+  pub record FirstNoted (N : ℕ → ℕ) : Type 0 where
     pub way : List ℕ
     pub first : First way
     pub trace : Trace N goal way

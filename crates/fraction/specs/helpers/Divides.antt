@@ -1,4 +1,4 @@
--- Helper words of reducing a fraction: what Euclid's algorithm finds. No public promise speaks of them.
+-- What Euclid's algorithm finds.
 use Prim.Native.Nat.{_*_, _∣_, _≤_, ℕ}
 
 -- r divides a and b, and whatever divides a multiple of each, the same times over, divides that multiple of r.

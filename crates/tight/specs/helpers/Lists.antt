@@ -1,4 +1,4 @@
--- Helper words of the lists of tight places: for each transition its tight outgoing places in rising order. No public promise speaks of them.
+-- The lists of tight places: for each transition its tight outgoing places in rising order.
 use mathlib.Core.Path.{_≡_}
 use mathlib.Core.Logic.{_≢_}
 use mathlib.Core.List.{List}
@@ -6,8 +6,8 @@ use Prim.Native.Nat.{_+_, _<_, _≤_, ℕ}
 use lib.ListN.{length, set}
 use Rattle.marked.specs.Net.{Net, at}
 use Rattle.marked.specs.Bounds.{Tight}
-use Rattle.net.specs.Plan.{Plan}
-use Rattle.net.specs.Graph.{netOf, startOf}
+use Rattle.net.specs.Limits.{mostPlaces, mostTransitions}
+use Rattle.fraction.specs.helpers.Loaded.{Loaded}
 
 -- q is the first place of T from lo on that leaves v; the number of places where there is none.
 pub record Next (g : Net) (T : ℕ → Type 0) (v lo q : ℕ) : Type 0 where
@@ -17,16 +17,16 @@ pub record Next (g : Net) (T : ℕ → Type 0) (v lo q : ℕ) : Type 0 where
 
 -- The places of two arrays as a net: place q runs from src q to dst q.
 abbrev pub drawn : ℕ → ℕ → List ℕ → List ℕ → Net
-drawn nt np src dst = record { transitions = nt; places = np; src = at src; dst = at dst; time = λ t. 0 }
+drawn nt np src dst = record { transitions = nt; places = np; src = at src; dst = at dst }
 
--- Place q is listed. (122 is no transition.)
+-- Place q is listed: its target is not the number that stands for none.
 abbrev pub Listed : List ℕ → ℕ → Type 0
-Listed dst q = at dst q ≢ 122
+Listed dst q = at dst q ≢ mostTransitions
 
 -- From each listed place, the next one that leaves the same transition; both ends of a listed place are transitions, and they differ.
-pub record Linked (nt np : ℕ) (next src dst : List ℕ) : Type 0 where
-  pub few : nt ≤ 122
-  pub many : np ≤ 376
+pub record Threaded (nt np : ℕ) (next src dst : List ℕ) : Type 0 where
+  pub few : nt ≤ mostTransitions
+  pub many : np ≤ mostPlaces
   pub nexts : (q : ℕ) → q < np → Listed dst q → Next (drawn nt np src dst) (Listed dst) (at src q) (q + 1) (at next q)
   pub leaves : (q : ℕ) → q < np → Listed dst q → at src q < nt
   pub enters : (q : ℕ) → q < np → Listed dst q → at dst q < nt
@@ -36,18 +36,18 @@ pub record Linked (nt np : ℕ) (next src dst : List ℕ) : Type 0 where
 pub record Headed (nt np : ℕ) (head src dst : List ℕ) : Type 0 where
   pub heads : (v : ℕ) → v < nt → Next (drawn nt np src dst) (Listed dst) v 0 (at head v)
   pub low : (v : ℕ) → at head v ≤ np
-  pub long : length head ≡ 122
+  pub long : length head ≡ mostTransitions
 
 -- The place p is tight at a / b for the potentials d.
-abbrev pub TightIn : Plan → ℕ → ℕ → List ℕ → ℕ → Type 0
-TightIn g a b d p = Tight (netOf g) (startOf g) a b (at d) p
+abbrev pub TightIn : Loaded → ℕ → ℕ → List ℕ → ℕ → Type 0
+TightIn g a b d p = Tight (g .net) (g .held) (g .time) a b (at d) p
 
 -- The four arrays have room for every transition and place.
 pub record Whole (head next src dst : List ℕ) : Type 0 where
-  pub heads : length head ≡ 122
-  pub nexts : length next ≡ 376
-  pub sources : length src ≡ 376
-  pub targets : length dst ≡ 376
+  pub heads : length head ≡ mostTransitions
+  pub nexts : length next ≡ mostPlaces
+  pub sources : length src ≡ mostPlaces
+  pub targets : length dst ≡ mostPlaces
 
 -- One place p from s to t, tried: it is put in front of the places that leave s where it is tight; else all is kept.
 pub data Drawn (s t p up down : ℕ) (d head next src dst : List ℕ) : List ℕ → List ℕ → List ℕ → List ℕ → Type 0 where
@@ -55,15 +55,15 @@ pub data Drawn (s t p up down : ℕ) (d head next src dst : List ℕ) : List ℕ
   passed : at d s + up ≢ at d t + down → Drawn s t p up down d head next src dst head next src dst
 
 -- The tight places from lo on are listed, and no other.
-pub record Listing (g : Plan) (a b : ℕ) (d : List ℕ) (lo : ℕ) (head next src dst : List ℕ) : Type 0 where
-  pub heads : (v : ℕ) → v < netOf g .transitions → Next (netOf g) (TightIn g a b d) v lo (at head v)
-  pub nexts : (q : ℕ) → lo ≤ q → q < netOf g .places → TightIn g a b d q → Next (netOf g) (TightIn g a b d) (netOf g .src q) (q + 1) (at next q)
-  pub tight : (q : ℕ) → lo ≤ q → q < netOf g .places → Listed dst q → TightIn g a b d q × (at src q ≡ netOf g .src q) × (at dst q ≡ netOf g .dst q)
-  pub listed : (q : ℕ) → lo ≤ q → q < netOf g .places → TightIn g a b d q → Listed dst q
-  pub blank : (q : ℕ) → q < lo → q < netOf g .places → at dst q ≡ 122
-  pub low : (v : ℕ) → at head v ≤ netOf g .places
+pub record Listing (g : Loaded) (a b : ℕ) (d : List ℕ) (lo : ℕ) (head next src dst : List ℕ) : Type 0 where
+  pub heads : (v : ℕ) → v < g .net .transitions → Next (g .net) (TightIn g a b d) v lo (at head v)
+  pub nexts : (q : ℕ) → lo ≤ q → q < g .net .places → TightIn g a b d q → Next (g .net) (TightIn g a b d) (g .net .src q) (q + 1) (at next q)
+  pub tight : (q : ℕ) → lo ≤ q → q < g .net .places → Listed dst q → TightIn g a b d q × (at src q ≡ g .net .src q) × (at dst q ≡ g .net .dst q)
+  pub listed : (q : ℕ) → lo ≤ q → q < g .net .places → TightIn g a b d q → Listed dst q
+  pub blank : (q : ℕ) → q < lo → q < g .net .places → at dst q ≡ mostTransitions
+  pub low : (v : ℕ) → at head v ≤ g .net .places
 
 -- The four arrays became h, k, u and w: what was listed from hi on is now listed from lo on.
-pub record Lengthened (g : Plan) (a b : ℕ) (d : List ℕ) (hi lo : ℕ) (head next src dst h k u w : List ℕ) : Type 0 where
+pub record Lengthened (g : Loaded) (a b : ℕ) (d : List ℕ) (hi lo : ℕ) (head next src dst h k u w : List ℕ) : Type 0 where
   pub whole : Whole h k u w
   pub more : Listing g a b d hi head next src dst → Listing g a b d lo h k u w

@@ -1,4 +1,4 @@
--- Helper words of going back from a transition along the noted places. No public promise speaks of them.
+-- Going back from a transition along the noted places.
 use mathlib.Core.Path.{_≡_}
 use mathlib.Core.Logic.{_≢_}
 use mathlib.Core.List.{List}
@@ -6,7 +6,7 @@ use Prim.Native.Nat.{_+_, _<_, _≤_, suc, zero, ℕ}
 use lib.ListN.{length}
 use Rattle.marked.specs.Lists.{All}
 use Rattle.marked.specs.Net.{Net, Walk, lasts, tokens}
-use Rattle.sweep.specs.Raises.{Noted}
+use Rattle.sweep.specs.helpers.Raises.{Noted}
 
 -- The transition before v: the source of the place noted at v; v itself where none is.
 unfoldable pub behind : Net → ℕ → ℕ → ℕ
@@ -34,27 +34,27 @@ pub record Turns (g : Net) (P : ℕ → ℕ) (w : ℕ) : Type 0 where
   pub round : back g P steps w ≡ w
 
 -- k noted places lead from x to w, with time t and tokens n.
-pub record Way (g : Net) (m P : ℕ → ℕ) (k x w t n : ℕ) : Type 0 where
+pub record Way (g : Net) (m time P : ℕ → ℕ) (k x w t n : ℕ) : Type 0 where
   pub places : List ℕ
   pub walk : Walk g x w places
   pub noted : All (Noted g P) places
   pub long : length places ≡ k
-  pub lasts : lasts g places ≡ t
+  pub lasts : lasts g time places ≡ t
   pub holds : tokens m places ≡ n
 
 -- Noted places lead from w to w, with time t and tokens n.
-pub record Round (g : Net) (m P : ℕ → ℕ) (w t n : ℕ) : Type 0 where
+pub record Round (g : Net) (m time P : ℕ → ℕ) (w t n : ℕ) : Type 0 where
   pub count : ℕ
   pub some : 1 ≤ count
   pub few : count ≤ g .transitions
-  pub way : Way g m P count w w t n
+  pub way : Way g m time P count w w t n
 
 -- A closed walk of at most as many places as there are transitions, with time t and tokens n.
-pub record Tour (g : Net) (m : ℕ → ℕ) (t n : ℕ) : Type 0 where
+pub record Tour (g : Net) (m time : ℕ → ℕ) (t n : ℕ) : Type 0 where
   pub turn : ℕ
   pub places : List ℕ
   pub walk : Walk g turn turn places
   pub some : 1 ≤ length places
   pub few : length places ≤ g .transitions
-  pub lasts : lasts g places ≡ t
+  pub lasts : lasts g time places ≡ t
   pub holds : tokens m places ≡ n

@@ -1,0 +1,19 @@
+// The time of every transition, written into a lent buffer.
+use crate::OPERATIONS;
+use crate::TRANSITIONS;
+ghost use Prim.Native.Nat.{_≤_};
+ghost use Rattle.net.specs.Limits.{mostOperations};
+ghost use Rattle.net.specs.helpers.Times.{Timed};
+
+// A process takes its operation's time, every other transition none.
+pub fn transition_times(n: usize, times: &[u32; OPERATIONS], out: &mut [u32; TRANSITIONS])
+    requires { ⌜ n ≤ mostOperations ⌝ }
+    ensures { λ _. ⌜ Timed n (now (times .entry)) (now (out .exit)) ⌝ }
+{
+    *out = [0; TRANSITIONS];
+    let mut i = 0;
+    while i < n {
+        out[3 * i + 2] = times[i];
+        i += 1;
+    }
+}
