@@ -10,9 +10,9 @@ use Rattle.marked.specs.Firing.{Reaches}
 use Rattle.net.specs.Plan.{Joined, Plan, rows}
 use Rattle.net.specs.Ends.{dstOf, srcOf}
 use Rattle.net.specs.Graph.{netOf, startOf}
-use Rattle.net.specs.Work.{Says}
-use Rattle.reader.specs.Accepted.{Accepted}
-use Rattle.file.specs.Refusals.{Given, Sound}
+use Rattle.refusal.specs.helpers.Answers.{Says}
+use Rattle.net.specs.Good.{Good}
+use Rattle.refusal.specs.Asking.{Given, Sound}
 use Rattle.reader.specs.declared.graph.Graph.{Graph}
 use Rattle.marking.specs.Rows.{runRows}
 

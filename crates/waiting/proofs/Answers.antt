@@ -3,12 +3,12 @@ use mathlib.Core.Path.{_≡_, refl}
 use mathlib.Core.List.{List, [], _∷_}
 use Prim.Native.Nat.{_*_, _+_, _<_, _≤_, ℕ}
 use native.Mathlib.Omega.{arith}
-use Rattle.file.specs.Refusals.{Sound, whole}
+use Rattle.refusal.specs.Asking.{Sound, asked}
 use Rattle.reader.specs.Reply.{LookReply}
 use Rattle.reader.specs.Outcome.{accepted, passed, refusal, refused as stopped, unread}
 use Rattle.reader.specs.declared.graph.Graph.{Graph}
 use Rattle.reader.specs.declared.graph.Look.{Look}
-use Rattle.reader.specs.declared.graph.Verdict.the-variants.{Accepted as Passed, Refused as Stopped}
+use Rattle.refusal.specs.declared.Verdict.the-variants.{Accepted as Passed, Refused as Stopped}
 use Rattle.file.proofs.Clear.{Clear, clear-more, given, given-more, lowest-whole, sound}
 use Rattle.reader.proofs.Outcomes.{clear-10}
 use Rattle.marking.specs.Rows.{Numbered, runRows, waitRows}

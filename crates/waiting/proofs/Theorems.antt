@@ -4,10 +4,10 @@ use mathlib.Core.List.{List}
 use Prim.Native.Nat.{_≤_, ℕ}
 use native.Mathlib.Omega.{arith}
 use Rattle.marked.specs.Net.{at}
-use Rattle.marked.specs.Wait.{Waits as Demand}
+use Rattle.marked.specs.Wait.{Demand3 as Demand}
 use Rattle.marked.proofs.Demand.{wait-most, wait-reached, wait-sum-unique, waits-unique}
 use Rattle.net.specs.Graph.{netOf}
-use Rattle.net.proofs.Shapes.{limited-proper}
+use Rattle.net.proofs.Shapes.{wired-proper}
 use Rattle.reader.specs.Reply.{LookReply, shown}
 use Rattle.file.specs.Labels.{SameButLabels}
 use Rattle.reader.specs.Outcome.{Ends, Outcome, passed}
@@ -38,7 +38,7 @@ wait-label-blind f g m t r s p = record { outcome = p .outcome; ends = outcome-l
 answers : {f m : List ℕ} {t w : ℕ} {o : Outcome} (l : Look) → LookReply f l → Ends f (waitRows m t) o → Replies m t o (Waits w) → Demanded (l .graph) m t w
 answers {f} {m} {t} {w} l p (passed {r = r} q e s) (waits x) =
     let a = look-accepted f r e q in
-    let d : Demand (netOf (shown (r .graph))) (at m) t w = wait-reached (limited-proper (a .limited)) (a .live) (s .kept 11 0 refl) x in
+    let d : Demand (netOf (shown (r .graph))) (at m) t w = wait-reached (wired-proper (a .limited)) (a .live) (s .kept 11 0 refl) x in
     subst (λ (k : Look). Demanded (k .graph) m t w) (look-determined f r l q p) (record { meets = d; only = λ v h. waits-unique h d })
 
 -- Demand 3, end to end: the number that `wait` returns meets all three sentences about all firing sequences of look's graph, and is the only one that does.
@@ -48,7 +48,7 @@ wait-answers-demand f m t w l p r = answers l p (r .ends) (r .replies)
 small : {f m : List ℕ} {t w : ℕ} {o : Outcome} → Ends f (waitRows m t) o → Replies m t o (Waits w) → w ≤ 14884
 small {f} (passed {r = r} q e s) (waits x) =
     let a = look-accepted f r e q in
-    wait-most (limited-proper (a .limited)) 122 1 (omega (arith, a .limited .operations)) (s .kept 10 0 refl .single) x
+    wait-most (wired-proper (a .limited)) 122 1 (omega (arith, a .limited .operations)) (s .kept 10 0 refl .single) x
 
 -- No wait is longer than 122 · 122 firings.
 pub wait-small : (f m : List ℕ) (t w : ℕ) → WaitReply f m t (Waits w) → w ≤ 14884

@@ -3,7 +3,7 @@ use mathlib.Core.Path.{_≡_}
 use mathlib.Core.List.{List}
 use Prim.Native.Nat.{ℕ}
 use Rattle.marked.specs.Net.{at}
-use Rattle.marked.specs.Wait.{Waits}
+use Rattle.marked.specs.Wait.{Demand3}
 use Rattle.net.specs.Graph.{netOf}
 use Rattle.reader.specs.Reply.{shown}
 use Rattle.reader.specs.declared.graph.Graph.{Graph}

@@ -7,8 +7,8 @@ use Rattle.marked.specs.Net.{at}
 use Rattle.marked.specs.Wait.{WaitSum}
 use Rattle.net.specs.Plan.{Joined, rows}
 use Rattle.net.specs.Graph.{netOf}
-use Rattle.reader.specs.Accepted.{Accepted}
-use Rattle.file.specs.Refusals.{Given, Sound}
+use Rattle.net.specs.Good.{Good}
+use Rattle.refusal.specs.Asking.{Given, Sound}
 use Rattle.reader.specs.Reply.{shown}
 use Rattle.reader.specs.declared.graph.Graph.{Graph}
 use Rattle.marking.specs.Rows.{waitRows}

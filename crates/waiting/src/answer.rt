@@ -3,7 +3,7 @@ use crate::reply::Wait;
 use crate::sum::wait_sum;
 use marking::accepts::accepts;
 use net::EDGES;
-ghost use Rattle.net.specs.Valid.{Single, Valid};
+ghost use Rattle.net.specs.Good.{Marked, Wired};
 ghost use Rattle.waiting.specs.Work.{GraphWaits};
 
 pub fn answer<'a>(
@@ -15,8 +15,8 @@ pub fn answer<'a>(
     marking: &[u8],
     transition: u16,
 ) -> Wait
-    requires { ⌜ Valid n e (now from) (now to) ⌝ }
-    requires { ⌜ Single n e (now mark) ⌝ }
+    requires { ⌜ Wired n e (now from) (now to) ⌝ }
+    requires { ⌜ Marked n e (now mark) ⌝ }
     ensures { λ r. ⌜ GraphWaits n e (now (from .entry)) (now (to .entry)) (now (mark .entry)) (now (marking .entry)) transition r ⌝ }
 {
     let number = accepts(n, e, from, to, mark, marking);

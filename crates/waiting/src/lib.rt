@@ -4,7 +4,7 @@ pub mod reply;
 pub mod sum;
 
 use answer::answer;
-use reader::graph::Verdict;
+use refusal::Verdict;
 use reader::look;
 use reply::Wait;
 ghost use Rattle.waiting.specs.Reply.{WaitReply};

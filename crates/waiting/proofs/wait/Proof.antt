@@ -1,7 +1,7 @@
 -- Look's refusal as it stands; else the reply for look's graph, which is accepted.
 use denote.Ref.{now}
 use borrow.Author.Needs.{needs}
-use Rattle.reader.specs.Accepted.{Accepted}
+use Rattle.net.specs.Good.{Good}
 use Rattle.reader.proofs.Accepting.{accepted, accepted-single, accepted-valid}
 use Rattle.waiting.proofs.Answers.{ended-reply, unread-reply}
 use Rattle.waiting.proofs.wait.Statement.{statement}
