@@ -10,5 +10,5 @@ use Rattle.reader.specs.declared.graph.Graph.{Graph}
 
 -- Of all firing sequences of look's graph g from the marking m, w meets the three sentences about the transition t, and no other number does.
 pub record Demanded (g : Graph) (m : List ℕ) (t w : ℕ) : Type 0 where
-  pub meets : Waits (netOf (shown g)) (at m) t w
-  pub only : (v : ℕ) → Waits (netOf (shown g)) (at m) t v → v ≡ w
+  pub meets : Demand3 (netOf (shown g)) (at m) t w
+  pub only : (v : ℕ) → Demand3 (netOf (shown g)) (at m) t v → v ≡ w
