@@ -1,4 +1,2 @@
 pub mod Step
-pub mod Search
-pub mod Move
-pub mod Work
+pub mod helpers

@@ -22,7 +22,8 @@ use denote.Struct.Steps.{spelt}
 use denote.Struct.Laws as LL
 use Rattle.firing.specs.declared.step.Answer.{Answer}
 use Rattle.running.specs.declared.entry.RunRecord.{RunRecord}
-use Rattle.running.specs.Work.{EntryTaken, Ready}
+use Rattle.running.specs.Run.{EntryTaken}
+use Rattle.running.specs.helpers.Ready.{EntryReady}
 use Rattle.running.proofs.entry.RunRecord as T
 use Rattle.running.proofs.entry.RunRecord.Laws as T′
 
@@ -63,7 +64,7 @@ tokens 𝓤 κ₁ κ₂ q₁ q₂ = ‵ (flft κ₁ q₁) ⊛ ‵ (flft κ₂ q�
 
 -- What the contracts ask and ensure.
 abbrev pub Asks : RunRecord → Rest → Type 0
-Asks h r = Ready (r .1 .0) (r .1 .1 .0 .now) (r .1 .1 .1 .0 .now) h (r .0 .now) (r .1 .1 .1 .1 .0 .now)
+Asks h r = EntryReady (r .1 .0) (r .1 .1 .0 .now) (r .1 .1 .1 .0 .now) h (r .0 .now) (r .1 .1 .1 .1 .0 .now)
 
 abbrev pub Took : RunRecord → Rest → Answer → RunRecord → List ℕ → Type 0
 Took h r a h′ zs = EntryTaken (r .1 .0) (r .1 .1 .0 .now) (r .1 .1 .1 .0 .now) h (r .0 .now) (r .1 .1 .1 .1 .0 .now) a h′ zs

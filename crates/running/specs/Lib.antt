@@ -1,2 +1,2 @@
 pub mod Run
-pub mod Work
+pub mod helpers

@@ -2,7 +2,8 @@
 use firing::step::Answer;
 use firing::step::step_rows;
 use net::EDGES;
-ghost use Rattle.running.specs.Work.{EntryTaken, Ready};
+ghost use Rattle.running.specs.Run.{EntryTaken};
+ghost use Rattle.running.specs.helpers.Ready.{EntryReady};
 
 // The marking's place count, the next list position and the number of firings so far.
 pub struct RunRecord {
@@ -26,7 +27,7 @@ pub fn entry_core<'a>(
     to: &'a [u8; EDGES],
     list: &'a [u16],
 ) -> Taken
-    requires { ⌜ Ready n (now from) (now to) rec (now marking) (now list) ⌝ }
+    requires { ⌜ EntryReady n (now from) (now to) rec (now marking) (now list) ⌝ }
     ensures { λ r. ⌜ EntryTaken n (now (from .entry)) (now (to .entry)) rec (now (marking .entry)) (now (list .entry)) (r .answer) (r .rec) (now (marking .exit)) ⌝ }
 {
     let places = rec.places;
@@ -58,7 +59,7 @@ pub fn entry<'a>(
     to: &'a [u8; EDGES],
     list: &'a [u16],
 ) -> Answer
-    requires { ⌜ Ready n (now from) (now to) (now rec) (now marking) (now list) ⌝ }
+    requires { ⌜ EntryReady n (now from) (now to) (now rec) (now marking) (now list) ⌝ }
     ensures { λ r. ⌜ EntryTaken n (now (from .entry)) (now (to .entry)) (now (rec .entry)) (now (marking .entry)) (now (list .entry)) r (now (rec .exit)) (now (marking .exit)) ⌝ }
 {
     let taken = entry_core(*rec, marking, n, from, to, list);
@@ -75,7 +76,7 @@ pub fn take<'a>(
     to: &'a [u8; EDGES],
     list: &'a [u16],
 ) -> Taken
-    requires { ⌜ Ready n (now from) (now to) rec (now marking) (now list) ⌝ }
+    requires { ⌜ EntryReady n (now from) (now to) rec (now marking) (now list) ⌝ }
     ensures { λ r. ⌜ EntryTaken n (now (from .entry)) (now (to .entry)) rec (now (marking .entry)) (now (list .entry)) (r .answer) (r .rec) (now (marking .exit)) ⌝ }
 {
     let mut lent = rec;

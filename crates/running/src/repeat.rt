@@ -3,13 +3,22 @@ use crate::entry::RunRecord;
 use crate::entry::take;
 use firing::step::Answer;
 use net::EDGES;
-ghost use Rattle.firing.specs.Work.{Few};
-ghost use Rattle.running.specs.Work.{RunTaken};
+use refusal::Refusal;
+ghost use Rattle.net.specs.Plan.{wires};
+ghost use Rattle.net.specs.Graph.{netOf};
+ghost use Rattle.firing.specs.helpers.Few.{Few};
+ghost use Rattle.running.specs.Run.{Runs};
 
-// How many entries fired, and the first refusal; `Fired` where there was none.
+// How a run ended: every entry fired, or one was refused.
+pub enum End {
+    Done,
+    Refused(Refusal),
+}
+
+// How many entries fired, and how the run ended.
 pub struct Ran {
     pub fired: usize,
-    pub answer: Answer,
+    pub end: End,
 }
 
 // A run only repeats `take`.
@@ -22,7 +31,7 @@ pub fn run_rows<'a>(
     list: &'a [u16],
 ) -> Ran
     requires { ⌜ Few n e (now from) (now to) (now marking) ⌝ }
-    ensures { λ r. ⌜ RunTaken n e (now (from .entry)) (now (to .entry)) (now (marking .entry)) (now (list .entry)) r (now (marking .exit)) ⌝ }
+    ensures { λ r. ⌜ Runs (netOf (wires n e (now (from .entry)) (now (to .entry)))) (now (marking .entry)) (now (list .entry)) (r .fired) (r .end) (now (marking .exit)) ⌝ }
 {
     let mut rec = RunRecord {
         places: 3 * n + 2 * e,
@@ -33,19 +42,16 @@ pub fn run_rows<'a>(
         let taken = take(rec, marking, n, from, to, list);
         let after = taken.rec;
         let answer = taken.answer;
-        if let Answer::Refused { number, place } = answer {
+        if let Answer::Refused(refusal) = answer {
             return Ran {
                 fired: after.fired,
-                answer: Answer::Refused {
-                    number: number,
-                    place: place,
-                },
+                end: End::Refused(refusal),
             };
         }
         rec = after;
     }
     Ran {
         fired: rec.fired,
-        answer: Answer::Fired,
+        end: End::Done,
     }
 }

@@ -3,11 +3,11 @@ use mathlib.Core.Path.{_≡_, _∙_}
 use mathlib.Core.List.{List}
 use Prim.Native.Nat.{ℕ}
 use native.Mathlib.Omega.{arith}
-use Rattle.net.specs.Valid.{Valid}
+use Rattle.net.specs.Good.{Wired}
 use Rattle.reader.specs.Reply.{LookReply}
 use Rattle.reader.specs.Outcome.{passed, refused as stopped, unread}
 use Rattle.reader.specs.declared.graph.Look.{Look}
-use Rattle.reader.specs.declared.graph.Verdict.the-variants.{Accepted as Passed, Refused as Stopped}
+use Rattle.refusal.specs.declared.Verdict.the-variants.{Accepted as Passed, Refused as Stopped}
 use Rattle.reader.proofs.Accepting.{accepted}
 use Rattle.reader.proofs.Outcomes.{clear-10}
 use Rattle.file.proofs.Clear.{clear-more, given, lowest-whole, sound}
@@ -29,7 +29,7 @@ use Rattle.stepping.specs.Work.GraphStepped.{kept as step-kept, taken as
 use Rattle.stepping.specs.Work.GraphRun.{kept as run-kept, taken as run-taken}
 
 -- An accepted marking has few tokens.
-pub accepted-few : {n e k : ℕ} {from to mark m : List ℕ} → Valid n e from to → Answered n e from to mark m k → k ≡ 0 → Few n e from to m
+pub accepted-few : {n e k : ℕ} {from to mark m : List ℕ} → Wired n e from to → Answered n e from to mark m k → k ≡ 0 → Few n e from to m
 accepted-few v a z = few-single (record { valid = v; long = omega (arith, a .bytes z .fits) }) (a .bytes z .single)
 
 module _ {f m : List ℕ} {l : Look} (look : LookReply f l) where

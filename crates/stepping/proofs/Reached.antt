@@ -9,16 +9,15 @@ use Rattle.marked.specs.Firing.Fires.{still, then}
 use Rattle.marked.proofs.Fired.{fires-join}
 use Rattle.net.specs.Graph.{netOf}
 use Rattle.net.proofs.Safe.{safe}
-use Rattle.file.specs.Refusals.{Ask}
+use Rattle.refusal.specs.Asking.{Ask}
 use Rattle.reader.specs.Reply.{LookReply, shown}
 use Rattle.reader.specs.Outcome.{Ends, accepted, passed}
 use Rattle.reader.specs.declared.graph.Graph.{Graph}
 use Rattle.reader.specs.declared.graph.Look.{Look}
 use Rattle.reader.proofs.Accepting.{accepted as look-accepted}
-use Rattle.reader.proofs.Outcomes.{clear-10}
+use Rattle.reader.proofs.Outcomes.{clear-10, outcome-determined}
 use Rattle.file.proofs.Clear.{clear-more, sound}
 use Rattle.reader.proofs.Determined.{look-determined}
-use Rattle.reader.proofs.Outcomes.{outcome-determined}
 use Rattle.marking.specs.Rows.{Fits, Reached, runRows}
 use Rattle.firing.specs.declared.step.Answer.{Answer}
 use Rattle.firing.specs.declared.step.Answer.the-variants.{Fired, Refused}

@@ -3,7 +3,7 @@ use mathlib.Core.Path.{_≡_}
 use mathlib.Core.List.{List}
 use Prim.Native.Nat.{_*_, _+_, ℕ}
 use lib.ListN.{length}
-use Rattle.net.specs.Start.{Started as Written}
+use Rattle.net.specs.helpers.Start.{Started as Written}
 use Rattle.marking.specs.Work.{Answered}
 use Rattle.firing.specs.declared.step.Answer.{Answer}
 use Rattle.firing.specs.declared.step.Answer.the-variants.{Refused}

@@ -7,12 +7,12 @@ use net::EDGES;
 use net::start::start_marking;
 use running::repeat::Ran;
 use running::repeat::run_rows;
-ghost use Rattle.net.specs.Valid.{Single, Valid};
+ghost use Rattle.net.specs.Good.{Marked, Wired};
 ghost use Rattle.stepping.specs.Work.{GraphRun, GraphStarted, GraphStepped};
 
 // What stood in the buffer is no fault: only its length is tested.
 pub fn start_graph(n: usize, e: usize, mark: &[u8; EDGES], marking: &mut [u8]) -> Start
-    requires { ⌜ Single n e (now mark) ⌝ }
+    requires { ⌜ Marked n e (now mark) ⌝ }
     ensures { λ r. ⌜ GraphStarted n e (now (mark .entry)) (now (marking .entry)) r (now (marking .exit)) ⌝ }
 {
     if marking.len() != 3 * n + 2 * e {
@@ -35,8 +35,8 @@ pub fn step_graph<'a>(
     marking: &mut [u8],
     transition: u16,
 ) -> Answer
-    requires { ⌜ Valid n e (now from) (now to) ⌝ }
-    requires { ⌜ Single n e (now mark) ⌝ }
+    requires { ⌜ Wired n e (now from) (now to) ⌝ }
+    requires { ⌜ Marked n e (now mark) ⌝ }
     ensures { λ r. ⌜ GraphStepped n e (now (from .entry)) (now (to .entry)) (now (mark .entry)) (now (marking .entry)) transition r (now (marking .exit)) ⌝ }
 {
     let number = accepts(n, e, from, to, mark, marking);
@@ -56,8 +56,8 @@ pub fn run_graph<'a>(
     marking: &mut [u8],
     list: &'a [u16],
 ) -> Ran
-    requires { ⌜ Valid n e (now from) (now to) ⌝ }
-    requires { ⌜ Single n e (now mark) ⌝ }
+    requires { ⌜ Wired n e (now from) (now to) ⌝ }
+    requires { ⌜ Marked n e (now mark) ⌝ }
     ensures { λ r. ⌜ GraphRun n e (now (from .entry)) (now (to .entry)) (now (mark .entry)) (now (marking .entry)) (now (list .entry)) r (now (marking .exit)) ⌝ }
 {
     let number = accepts(n, e, from, to, mark, marking);

@@ -6,7 +6,7 @@ use firing::step::Answer;
 use graph::run_graph;
 use graph::start_graph;
 use graph::step_graph;
-use reader::graph::Verdict;
+use refusal::Verdict;
 use reader::look;
 use reply::Start;
 use running::repeat::Ran;

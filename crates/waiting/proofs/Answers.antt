@@ -3,43 +3,46 @@ use mathlib.Core.Path.{_≡_, refl}
 use mathlib.Core.List.{List, [], _∷_}
 use Prim.Native.Nat.{_*_, _+_, _<_, _≤_, ℕ}
 use native.Mathlib.Omega.{arith}
-use Rattle.file.specs.Refusals.{Sound, whole}
+use Rattle.refusal.specs.Asking.{Given, Sound}
+use Rattle.refusal.specs.declared.Refusal.{Refusal}
+use Rattle.refusal.specs.declared.Verdict.the-variants.{Accepted as Passed, Refused as Stopped}
+use Rattle.refusal.proofs.Asked.{given-first, given-here, given-next, lowest-whole, sound-next, sound-none}
+use Rattle.marked.specs.Net.{at}
+use Rattle.marked.specs.Wait.{WaitSum}
+use Rattle.net.specs.Plan.{Plan}
+use Rattle.net.specs.Graph.{netOf}
 use Rattle.reader.specs.Reply.{LookReply}
-use Rattle.reader.specs.Outcome.{accepted, passed, refusal, refused as stopped, unread}
-use Rattle.reader.specs.declared.graph.Graph.{Graph}
+use Rattle.reader.specs.Outcome.{passed, refused as stopped, unread}
 use Rattle.reader.specs.declared.graph.Look.{Look}
-use Rattle.reader.specs.declared.graph.Verdict.the-variants.{Accepted as Passed, Refused as Stopped}
-use Rattle.file.proofs.Clear.{Clear, clear-more, given, given-more, lowest-whole, sound}
-use Rattle.reader.proofs.Outcomes.{clear-10}
-use Rattle.marking.specs.Rows.{Numbered, runRows, waitRows}
-use Rattle.marking.specs.Work.{Answered, graphOf}
-use Rattle.waiting.specs.Reply.{WaitReply, refused as replies-refused, waits as replies-waits}
-use Rattle.waiting.specs.Work.{Ended, GraphWaits, Summed, refused, waits}
+use Rattle.marking.specs.Rows.{row12, runRows}
+use Rattle.marking.specs.helpers.Wiring.{plotted}
+use Rattle.waiting.specs.Reply.{WaitReply}
+use Rattle.waiting.specs.Reply.WaitReply.{refused as reply-refused, waits as reply-waits}
+use Rattle.waiting.specs.helpers.Work.{GraphWaits}
+use Rattle.waiting.specs.helpers.Work.GraphWaits.{refused, waits}
 use Rattle.waiting.specs.declared.reply.Wait.{Wait}
 use Rattle.waiting.specs.declared.reply.Wait.the-variants.{Refused, Waits}
 
--- rows 10 and 11 kept, as the longer table has them
-clear-12 : {m : List ℕ} {g : Graph} (t : ℕ) → Sound (runRows m g) → Clear (waitRows m t g) 12
-clear-12 t s = clear-more 11 (λ x p. s .kept 11 0 refl) (clear-more 10 (λ x p. s .kept 10 0 refl) (clear-10 _))
-
-module _ {n e : ℕ} {from to mark marking : List ℕ} {t : ℕ} where
+module _ (g : Plan) (m : List ℕ) {t : ℕ} where
   -- Refused by 10 or 11,
-  pub answers-row : {k : ℕ} → Answered n e from to mark marking k → (k ≡ 0 → ⊥) → GraphWaits n e from to mark marking t (Refused k 0)
-  answers-row a k = record { ended = λ times g. refused (given-more (runRows marking (graphOf n e times from to mark)) (whole (Numbered (graphOf n e times from to mark) t) ∷ []) (a .given k times g)) }
+  pub answers-row : {r : Refusal} → Given (runRows m g) r → GraphWaits g m t (Refused r)
+  answers-row h = refused (given-first (runRows m g) (row12 t g ∷ []) h)
 
   -- by 12,
-  pub answers-12 : {k : ℕ} → Answered n e from to mark marking k → k ≡ 0 → 3 * n + 1 < t → GraphWaits n e from to mark marking t (Refused 12 0)
-  answers-12 a k l = record { ended = λ times g. refused (given 12 (clear-12 t (a .sound k times g)) (lowest-whole (λ h. omega arith))) }
+  pub answers-12 : Sound (runRows m g) → 3 * g .operations + 1 < t → GraphWaits g m t (Refused (record { number = 12; place = 0 }))
+  answers-12 h l =
+      refused (given-next (h .kept .0) (given-next (h .kept .1 .0) (given-here (record { number = 12; place = 0 }) refl (lowest-whole (λ k. omega arith)))))
 
   -- or accepted, with the sum.
-  pub answers-wait : {k w : ℕ} → Answered n e from to mark marking k → k ≡ 0 → t ≤ 3 * n + 1 → Summed n e from to marking t w → GraphWaits n e from to mark marking t (Waits w)
-  answers-wait a k l s =
-      record { ended = λ times g. waits (sound (clear-more 12 (λ x p. omega arith) (clear-12 t (a .sound k times g)))) (s .sum times mark (g .joined)) }
+  pub answers-wait : {w : ℕ} → Sound (runRows m g) → t ≤ 3 * g .operations + 1 → WaitSum (netOf g) (at m) t w → GraphWaits g m t (Waits w)
+  answers-wait h l s = waits (sound-next (h .kept .0) (sound-next (h .kept .1 .0) (sound-next (λ x p. omega arith) sound-none))) s
 
 module _ {f m : List ℕ} {t : ℕ} {l : Look} (look : LookReply f l) where
-  pub unread-reply : {k x : ℕ} → l .verdict ≡ Stopped k x → WaitReply f m t (Refused k x)
-  unread-reply e = record { outcome = refusal _ _; ends = unread look e; replies = replies-refused }
+  pub unread-reply : {r : Refusal} → l .verdict ≡ Stopped r → WaitReply f m t (Refused r)
+  unread-reply e = reply-refused (unread look e)
 
-  pub ended-reply : {r : Wait} → l .verdict ≡ Passed → Ended (l .graph) m t r → WaitReply f m t r
-  ended-reply e (refused g) = record { outcome = refusal _ _; ends = stopped look e g; replies = replies-refused }
-  ended-reply e (waits s w) = record { outcome = accepted _; ends = passed look e s; replies = replies-waits w }
+  -- (Rows 10 to 12 and the sum of a graph tell nothing of times.)
+  pub ended-reply : {r : Wait} → l .verdict ≡ Passed
+      → GraphWaits (plotted (l .graph .operations) (l .graph .edges) (l .graph .from) (l .graph .to) (l .graph .mark)) m t r → WaitReply f m t r
+  ended-reply e (refused g) = reply-refused (stopped look e g)
+  ended-reply e (waits s w) = reply-waits (passed look e s) w

@@ -1,3 +1,3 @@
 pub mod Reply
 pub mod Demand
-pub mod Work
+pub mod helpers

@@ -3,8 +3,10 @@ use crate::reply::Wait;
 use crate::sum::wait_sum;
 use marking::accepts::accepts;
 use net::EDGES;
-ghost use Rattle.net.specs.Valid.{Single, Valid};
-ghost use Rattle.waiting.specs.Work.{GraphWaits};
+use refusal::Refusal;
+use refusal::Verdict;
+ghost use Rattle.marking.specs.helpers.Wiring.{GoodWiring, plotted};
+ghost use Rattle.waiting.specs.helpers.Work.{GraphWaits};
 
 pub fn answer<'a>(
     n: usize,
@@ -15,20 +17,19 @@ pub fn answer<'a>(
     marking: &[u8],
     transition: u16,
 ) -> Wait
-    requires { ⌜ Valid n e (now from) (now to) ⌝ }
-    requires { ⌜ Single n e (now mark) ⌝ }
-    ensures { λ r. ⌜ GraphWaits n e (now (from .entry)) (now (to .entry)) (now (mark .entry)) (now (marking .entry)) transition r ⌝ }
+    requires { ⌜ GoodWiring n e (now from) (now to) (now mark) ⌝ }
+    ensures { λ r. ⌜ GraphWaits (plotted n e (now (from .entry)) (now (to .entry)) (now (mark .entry))) (now (marking .entry)) transition r ⌝ }
 {
-    let number = accepts(n, e, from, to, mark, marking);
-    if number != 0 {
-        return Wait::Refused { number, place: 0 };
+    let verdict = accepts(n, e, from, to, mark, marking);
+    if let Verdict::Refused(refusal) = verdict {
+        return Wait::Refused(refusal);
     }
     let t = transition as usize;
     if 3 * n + 1 < t {
-        return Wait::Refused {
+        return Wait::Refused(Refusal {
             number: 12,
             place: 0,
-        };
+        });
     }
     let w = wait_sum(n, e, from, to, marking, t);
     Wait::Waits(w)

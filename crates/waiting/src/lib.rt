@@ -4,7 +4,7 @@ pub mod reply;
 pub mod sum;
 
 use answer::answer;
-use reader::graph::Verdict;
+use refusal::Verdict;
 use reader::look;
 use reply::Wait;
 ghost use Rattle.waiting.specs.Reply.{WaitReply};
@@ -15,8 +15,8 @@ pub fn wait(file: &[u8], marking: &[u8], transition: u16) -> Wait
 {
     let looked = look(file);
     let verdict = looked.verdict;
-    if let Verdict::Refused { number, place } = verdict {
-        return Wait::Refused { number, place };
+    if let Verdict::Refused(refusal) = verdict {
+        return Wait::Refused(refusal);
     }
     let g = looked.graph;
     answer(

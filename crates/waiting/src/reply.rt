@@ -1,5 +1,7 @@
 // What `wait` replies.
+use refusal::Refusal;
+
 pub enum Wait {
     Waits(u32),
-    Refused { number: u8, place: u16 },
+    Refused(Refusal),
 }

@@ -1,7 +1,7 @@
 -- Look's refusal as it stands; else the run in look's graph, which is accepted.
 use denote.Ref.{now}
 use borrow.Author.Needs.{needs}
-use Rattle.reader.specs.Accepted.{Accepted}
+use Rattle.net.specs.Good.{Good}
 use Rattle.reader.proofs.Accepting.{accepted, accepted-single, accepted-valid}
 use Rattle.stepping.proofs.Answers.{run-reply, run-unread}
 use Rattle.stepping.proofs.run.Statement.{statement}

@@ -1,7 +1,7 @@
 -- Look's refusal as it stands; else the start of look's graph.
 use denote.Ref.{now}
 use borrow.Author.Needs.{needs}
-use Rattle.reader.specs.Accepted.{Accepted}
+use Rattle.net.specs.Good.{Good}
 use Rattle.reader.proofs.Accepting.{accepted, accepted-single}
 use Rattle.stepping.proofs.Answers.{start-reply, start-unread}
 use Rattle.stepping.proofs.start.Statement.{statement}

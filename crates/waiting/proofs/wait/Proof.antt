@@ -1,17 +1,22 @@
--- Look's refusal as it stands; else the reply for look's graph, which is accepted.
+-- Look's refusal as it stands; else the reply for look's graph, which is good.
 use denote.Ref.{now}
 use borrow.Author.Needs.{needs}
-use Rattle.reader.specs.Accepted.{Accepted}
-use Rattle.reader.proofs.Accepting.{accepted, accepted-single, accepted-valid}
+use Rattle.reader.proofs.Accepting.{accepted-good}
+use Rattle.marking.specs.helpers.Wiring.{GoodWiring}
+use Rattle.marking.proofs.Judging.{good-wiring}
 use Rattle.waiting.proofs.Answers.{ended-reply, unread-reply}
 use Rattle.waiting.proofs.wait.Statement.{statement}
 use Rattle.waiting.proofs.wait.Tie as tie
 
--- past the test, look has accepted
-passed : (c : tie.After-enum-told) → Accepted (c .before .before .look .result .graph)
+-- From where the answer is asked for to where look is known to have accepted.
+abbrev told : tie.After-answer-arg3 → tie.After-enum-told
+told c = c .before .before .before .before .before
+
+-- Past the test, look's graph is good.
+passed : (c : tie.After-enum-told) → let g = c .before .before .look .result .graph in GoodWiring (g .operations) (g .edges) (g .from) (g .to) (g .mark)
 passed c =
     let l = c .before .before in
-    accepted (now (l .before .before .before .args .file)) (l .look .result) (c .enum-told .given .1) (l .look .ensures)
+    good-wiring (accepted-good (now (l .before .before .before .args .file)) (l .look .result) (c .enum-told .given .1) (l .look .ensures))
 
 look-requires : tie.Need-look-requires
 look-requires c κs = search needs
@@ -26,21 +31,12 @@ enum-told : tie.Need-enum-told
 enum-told c = search needs
 
 answer-requires : tie.Need-answer-requires
-answer-requires c κs = let a = passed (c .before .before .before .before .before) in (accepted-valid a, accepted-single a)
+answer-requires c κs = passed (told c)
 
 returns-2 : tie.Need-returns-2
-returns-2 c =
-    let k = c .before .before .before .before .before .before in
-    let l = k .before .before in
-    ended-reply (l .look .ensures) (k .enum-told .given .1) (c .answer .ensures .ended (l .look .result .graph .times) (passed k))
+returns-2 c = let k = told (c .before) in ended-reply (k .before .before .look .ensures) (k .enum-told .given .1) (c .answer .ensures)
 
 pub wait-spec : {M : Type 1} → statement M
 wait-spec =
     tie.close
-    (tie.spec
-    look-requires
-    enum-known-verdict
-    returns
-    enum-told
-    answer-requires
-    returns-2)
+    (tie.spec look-requires enum-known-verdict returns enum-told answer-requires returns-2)

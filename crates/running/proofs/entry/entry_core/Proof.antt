@@ -4,6 +4,10 @@ use Rattle.running.proofs.Entries.{entry-fired, entry-refused, ready-fe
 use Rattle.running.proofs.entry.entry_core.Statement.{statement}
 use Rattle.running.proofs.entry.entry_core.Tie as tie
 
+-- Where the step is taken, and where the function begins.
+abbrev start : tie.After-step-rows → tie.Start
+start c = c .before .before .before .before .before
+
 mul-step-rows : tie.Need-mul-step-rows
 mul-step-rows c = search needs
 
@@ -32,7 +36,7 @@ same-length : tie.Need-same-length
 same-length c = search needs
 
 returns : tie.Need-returns
-returns c = entry-fired (c .before .before .before .before .before .before .before .before .before .before .args .rec) (c .before .before .before .before .before .step-rows .ensures) (c .before .enum-told .given .1)
+returns c = entry-fired (start (c .before .before .before .before .before) .args .rec) (start (c .before .before .before .before .before) .pre) (c .before .before .before .before .before .step-rows .ensures) (c .before .enum-told .given .1)
 
 enum-told-2 : tie.Need-enum-told-2
 enum-told-2 c = search needs
@@ -41,7 +45,7 @@ same-length-2 : tie.Need-same-length-2
 same-length-2 c = search needs
 
 returns-2 : tie.Need-returns-2
-returns-2 c = entry-refused (c .before .before .before .before .before .before .before .before .before .args .rec) (c .before .before .before .before .step-rows .ensures) (c .enum-told2 .given .1)
+returns-2 c = entry-refused (start (c .before .before .before .before) .args .rec) (start (c .before .before .before .before) .pre) (c .before .before .before .before .step-rows .ensures) (c .enum-told2 .given .1)
 
 pub entry-core-spec : {M : Type 1} → statement M
 entry-core-spec =

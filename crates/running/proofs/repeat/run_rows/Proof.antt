@@ -13,14 +13,21 @@ Inv-loop n e from to marking₀ list rec₀ marking rec = Going n e from to mark
 abbrev μ-loop : tie.MeasureT-loop
 μ-loop n e from to marking₀ list rec₀ marking rec = length list - rec .next
 
+-- From the test of an entry's answer back to the call, and from there to the loop's head.
+abbrev called : tie.After-after Inv-loop μ-loop → tie.After-take Inv-loop μ-loop
+called c = c .before .before .before
+
+abbrev head : tie.After-take Inv-loop μ-loop → tie.At-loop Inv-loop μ-loop
+head c = c .before .before .before .before
+
+mul-t12 : tie.Need-mul-t12 Inv-loop μ-loop
+mul-t12 c = omega (arith, c .before .before .pre .lent .wired .operations)
+
 mul-t13 : tie.Need-mul-t13 Inv-loop μ-loop
-mul-t13 c = omega (arith, c .before .before .pre .lent .valid .operations)
+mul-t13 c = omega (arith, c .before .before .pre .lent .wired .edges)
 
-mul-t14 : tie.Need-mul-t14 Inv-loop μ-loop
-mul-t14 c = omega (arith, c .before .before .pre .lent .valid .edges)
-
-add-t15 : tie.Need-add-t15 Inv-loop μ-loop
-add-t15 c = omega (arith, c .before .before .pre .lent .valid .operations, c .before .before .pre .lent .valid .edges)
+add-t14 : tie.Need-add-t14 Inv-loop μ-loop
+add-t14 c = omega (arith, c .before .before .pre .lent .wired .operations, c .before .before .pre .lent .wired .edges)
 
 loop-holds : tie.Need-loop-holds Inv-loop μ-loop
 loop-holds c = going-start (c .before .before .pre)
@@ -32,19 +39,19 @@ enum-known-answer : tie.Need-enum-known-answer Inv-loop μ-loop
 enum-known-answer c = search needs
 
 same-length : tie.Need-same-length Inv-loop μ-loop
-same-length c = going-long (c .before .before .before .before .before .before .before .before .before .before .loop .inv) (c .before .before .before .before .before .before .before .before .if1 .taken) (c .before .before .before .before .before .before .take .ensures)
+same-length c = let k = called (c .before .before .before) in going-long (head k .loop .inv) (k .take .ensures)
 
 returns : tie.Need-returns Inv-loop μ-loop
-returns c = going-stops (c .before .before .before .before .before .before .before .before .before .before .loop .inv) (c .before .before .before .before .before .before .before .before .if1 .taken) (c .before .before .before .before .before .before .take .ensures) (c .before .answer .given .1)
+returns c = let k = called (c .before .before .before) in going-stops (head k .loop .inv) (k .take .ensures) (c .before .answer .given .1)
 
 enum-told : tie.Need-enum-told Inv-loop μ-loop
 enum-told c = search needs
 
 loop-less : tie.Need-loop-less Inv-loop μ-loop
-loop-less c = going-less (c .before .before .before .before .before .before .before .before .before .loop .inv) (c .before .before .before .before .before .before .before .if1 .taken) (c .before .before .before .before .before .take .ensures) (c .enum-told .given .1)
+loop-less c = let k = called (c .before .before) in going-less (head k .loop .inv) (k .take .ensures) (c .enum-told .given .1)
 
 loop-again : tie.Need-loop-again Inv-loop μ-loop
-loop-again c = going-on (c .before .before .before .before .before .before .before .before .before .loop .inv) (c .before .before .before .before .before .before .before .if1 .taken) (c .before .before .before .before .before .take .ensures) (c .enum-told .given .1)
+loop-again c = let k = called (c .before .before) in going-on (head k .loop .inv) (k .take .ensures) (c .enum-told .given .1)
 
 same-length-2 : tie.Need-same-length-2 Inv-loop μ-loop
 same-length-2 c = c .before .before .loop .inv .long
@@ -58,9 +65,9 @@ run-rows-spec =
     (tie.spec
     Inv-loop
     μ-loop
+    mul-t12
     mul-t13
-    mul-t14
-    add-t15
+    add-t14
     loop-holds
     take-requires
     enum-known-answer

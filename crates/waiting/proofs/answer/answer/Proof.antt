@@ -1,41 +1,71 @@
 -- Rows 10 and 11, row 12, then the sum: `answers-row`, `answers-12`, `answers-wait`.
+use mathlib.Core.List.{List}
+use Prim.Native.Nat.{ℕ}
+use denote.Ref.{now}
 use borrow.Author.Needs.{needs}
 use native.Mathlib.Omega.{arith}
+use mathlib.Core.Path.{refl}
+use Rattle.refusal.specs.Asking.{Sound}
+use Rattle.net.specs.Plan.{Plan}
+use Rattle.marking.specs.Rows.{runRows}
+use Rattle.marking.specs.helpers.Wiring.{plotted}
+use Rattle.marking.proofs.Judging.{marking-given, marking-sound}
 use Rattle.waiting.proofs.Answers.{answers-12, answers-row, answers-wait}
 use Rattle.waiting.proofs.answer.answer.Statement.{statement}
 use Rattle.waiting.proofs.answer.answer.Tie as tie
 
+-- The graph and the marking that are asked about.
+abbrev plan : tie.After-accepts → Plan
+plan c = let a = c .before .before .args in plotted (a .n) (a .e) (now (a .from)) (now (a .to)) (now (a .mark))
+
+abbrev bytes : tie.After-accepts → List ℕ
+bytes c = now (c .before .before .args .marking)
+
+-- Past the verdict, rows 10 and 11 are kept.
+kept : (c : tie.After-enum-told) → let a = c .before .before in Sound (runRows (bytes a) (plan a))
+kept c = let a = c .before .before in marking-sound (bytes a) (plan a) (a .accepts .ensures) (c .enum-told .given .1)
+
 accepts-requires : tie.Need-accepts-requires
 accepts-requires c κs = search needs
 
+enum-known-verdict : tie.Need-enum-known-verdict
+enum-known-verdict c = search needs
+
 returns : tie.Need-returns
-returns c = answers-row (c .before .accepts .ensures) (λ z. omega (arith, c .if1 .taken))
+returns c =
+    let a = c .before .before .before in
+    answers-row (plan a) (bytes a) (marking-given (bytes a) (plan a) (a .accepts .ensures) (c .before .verdict .given .1))
 
-mul-if2 : tie.Need-mul-if2
-mul-if2 c = search needs
+enum-told : tie.Need-enum-told
+enum-told c = search needs
 
-add-if2 : tie.Need-add-if2
-add-if2 c = search needs
+mul-if1 : tie.Need-mul-if1
+mul-if1 c = search needs
+
+add-if1 : tie.Need-add-if1
+add-if1 c = search needs
 
 returns-2 : tie.Need-returns-2
-returns-2 c = answers-12 (c .before .before .accepts .ensures) (omega arith) (c .if2 .taken)
+returns-2 c = let a = c .before .before .before in answers-12 (plan a) (bytes a) (kept (c .before)) (c .if1 .taken)
 
 wait-sum-requires : tie.Need-wait-sum-requires
 wait-sum-requires c κs =
-    let a = c .before .before in
-    (record { valid = a .before .before .pre .0; long = omega (arith, a .accepts .ensures .bytes (omega arith) .fits) }, omega arith)
+    let s = c .before .before .before .before .before in
+    record { wired = s .pre .wired; joined = s .pre .joined; long = omega (arith, kept (c .before) .kept .0 0 refl .fits); transition = omega arith }
 
 returns-3 : tie.Need-returns-3
-returns-3 c = let a = c .before .before .before in answers-wait (a .accepts .ensures) (omega arith) (omega arith) (c .wait-sum .ensures)
+returns-3 c = let a = c .before .before .before .before in answers-wait (plan a) (bytes a) (kept (c .before .before)) (omega arith) (c .wait-sum .ensures)
 
 pub answer-spec : {M : Type 1} → statement M
 answer-spec =
     tie.close
     (tie.spec
     accepts-requires
+    enum-known-verdict
     returns
-    mul-if2
-    add-if2
+    enum-told
+    mul-if1
+    add-if1
     returns-2
     wait-sum-requires
     returns-3)
