@@ -1,25 +1,37 @@
 -- Look refuses with a number from 1 to 9 and a low place, so the line of a refusal is short.
-use Prim.Native.Nat.{ℕ, zero, suc, _<_}
+use Prim.Native.Nat.{ℕ, _<_}
 use mathlib.Core.Path.{refl}
+use mathlib.Core.Logic.{⊎-elim}
 use mathlib.Core.List.{List}
 use native.Mathlib.Omega.{arith}
-use Rattle.file.specs.Refusals.{Given, row}
-use Rattle.file.specs.Rows.{Counted, table}
+use Rattle.refusal.specs.Asking.{FirstBroken, Given}
+use Rattle.refusal.specs.declared.Refusal.{Refusal}
+use Rattle.net.specs.Limits.{Counted}
+use Rattle.net.specs.Plan.{Plan}
+use Rattle.net.specs.Rules.{graphRows}
+use Rattle.file.specs.File.{planOf}
+use Rattle.file.specs.Frame.{lookRows}
 
-module _ (f : List ℕ) where
-  -- The places of row k, where the counts are within their limits.
-  place-small : (k x : ℕ) → (3 < k → Counted f) → row (table f) k .Place x → (k < 10) × (x < 1000)
-  place-small zero x c p = absurd p
-  place-small (suc zero) x c p = omega (arith, p)
-  place-small (suc (suc zero)) x c p = omega (arith, p)
-  place-small (suc (suc (suc zero))) x c p = omega (arith, p)
-  place-small (suc (suc (suc (suc zero)))) x c p = omega (arith, p)
-  place-small (suc (suc (suc (suc (suc zero))))) x c p = omega (arith, p .high-met, c (omega arith) .operations .high-met)
-  place-small (suc (suc (suc (suc (suc (suc zero)))))) x c p = omega (arith, p, c (omega arith) .edges .high-met)
-  place-small (suc (suc (suc (suc (suc (suc (suc zero))))))) x c p = omega (arith, p, c (omega arith) .operations .high-met)
-  place-small (suc (suc (suc (suc (suc (suc (suc (suc zero)))))))) x c p = omega (arith, p, c (omega arith) .operations .high-met)
-  place-small (suc (suc (suc (suc (suc (suc (suc (suc (suc zero))))))))) x c p = omega (arith, p, c (omega arith) .operations .high-met)
-  place-small (suc (suc (suc (suc (suc (suc (suc (suc (suc (suc k)))))))))) x c p = absurd p
+-- A number and a place that take few digits.
+abbrev Small : ℕ → ℕ → Type 0
+Small k x = (k < 10) × (x < 1000)
 
-  pub given-small : {k x : ℕ} → Given (table f) k x → (k < 10) × (x < 1000)
-  given-small {k} {x} g = place-small k x (λ l. g .before 3 l 0 refl) (g .here .broken .0)
+-- Rows 5 to 9, where the counts are within their limits.
+graph-small : (g : Plan) → Counted (g .operations) (g .edges) → (k x : ℕ) → FirstBroken (graphRows g) k x → Small k x
+graph-small g c k x =
+    ⊎-elim (λ p. omega (arith, p .0, p .1 .place .high-met, c .operations .high-met))
+    (λ q. ⊎-elim (λ p. omega (arith, p .0, p .1 .place, c .edges .high-met))
+    (λ q. ⊎-elim (λ p. omega (arith, p .0, p .1 .place, c .operations .high-met))
+    (λ q. ⊎-elim (λ p. omega (arith, p .0, p .1 .place, c .operations .high-met))
+    (λ q. ⊎-elim (λ p. omega (arith, p .0, p .1 .place, c .operations .high-met)) (λ q. absurd (q .1)) (q .1)) (q .1)) (q .1)) (q .1))
+
+-- All rows of look.
+pub given-small : (f : List ℕ) (r : Refusal) → Given (lookRows f) r → (r .number < 10) × (r .place < 1000)
+given-small f r h = look (h .first)
+  where
+    look : FirstBroken (lookRows f) (r .number) (r .place) → Small (r .number) (r .place)
+    look =
+        ⊎-elim (λ p. omega (arith, p .0, p .1 .place))
+        (λ q. ⊎-elim (λ p. omega (arith, p .0, p .1 .place))
+        (λ q. ⊎-elim (λ p. omega (arith, p .0, p .1 .place))
+        (λ three. ⊎-elim (λ p. omega (arith, p .0, p .1 .place)) (λ q. graph-small (planOf f) (three .0 0 refl) (r .number) (r .place) (q .1)) (three .1)) (q .1)) (q .1))

@@ -7,28 +7,34 @@ use borrow.Author.Count.{below-more}
 use lib.ListN.{length, set}
 use lib.Seq.{getD-set-other, getD-set-same}
 use Rattle.marked.specs.Net.{at}
+use Rattle.marked.specs.Wait.{WaitSum}
 use Rattle.marked.proofs.Demand.{wait-sum-same}
-use Rattle.net.specs.Start.{Started}
-use Rattle.waiting.specs.Work.{Summed}
-use Rattle.report.specs.Work.{Waited}
+use Rattle.net.specs.Plan.{wires}
+use Rattle.net.specs.Graph.{netOf}
+use Rattle.net.specs.helpers.Start.{Started}
+use Rattle.report.specs.helpers.Waited.{Waited}
 
 -- The first k entries are the waits of their transitions.
 pub record Summing (n e : ℕ) (from to marking : List ℕ) (k : ℕ) (waits : List ℕ) : Type 0 where
-  pub sums : (t : ℕ) → t < k → Summed n e from to marking t (at waits t)
+  pub sums : (t : ℕ) → t < k → WaitSum (netOf (wires n e from to)) (at marking) t (at waits t)
 
 module _ {n e : ℕ} {from to marking : List ℕ} where
+  -- The entry v is the wait of t.
+  abbrev Sum : ℕ → ℕ → Type 0
+  Sum t v = WaitSum (netOf (wires n e from to)) (at marking) t v
+
   pub summing-none : (waits : List ℕ) → Summing n e from to marking 0 waits
   summing-none waits = record { sums = λ t l. absurd (omega arith) }
 
   -- One wait more.
-  pub summing-more : {k w : ℕ} (waits : List ℕ) → k < length waits → Summing n e from to marking k waits → Summed n e from to marking k w → Summing n e from to marking (k + 1) (set waits k w)
+  pub summing-more : {k w : ℕ} (waits : List ℕ) → k < length waits → Summing n e from to marking k waits → Sum k w → Summing n e from to marking (k + 1) (set waits k w)
   summing-more {k} {w} waits h s x = record {
-    sums = below-more (λ t. Summed n e from to marking t (at (set waits k w) t)) k
-        (λ t l. subst (λ (v : ℕ). Summed n e from to marking t v) (sym (getD-set-other waits k t w 0 (λ e. omega arith))) (s .sums t l))
-        (subst (λ (v : ℕ). Summed n e from to marking k v) (sym (getD-set-same waits k w 0 h)) x);
+    sums = below-more (λ t. Sum t (at (set waits k w) t)) k
+        (λ t l. subst (λ (v : ℕ). Sum t v) (sym (getD-set-other waits k t w 0 (λ e. omega arith))) (s .sums t l))
+        (subst (λ (v : ℕ). Sum k v) (sym (getD-set-same waits k w 0 h)) x);
   }
 
   -- All of them, over the bytes of the start.
-  pub summing-waited : {k : ℕ} {mark a before after : List ℕ} → Started n mark 0 (3 * n + 2 * e) a marking → k ≡ 3 * n + 2 → Summing n e from to marking k after → length after ≡ length before → Waited n e from to mark before after
-  summing-waited {mark = mark} start j s long =
-      record { each = λ times joined t l. wait-sum-same (λ p h. start .filled p (omega arith) h) (s .sums t (omega arith) .sum times mark joined); long = long }
+  pub summing-waited : {k : ℕ} {mark a before after : List ℕ} → Started n mark 0 (3 * n + 2 * e) a marking → k ≡ 3 * n + 2
+      → Summing n e from to marking k after → length after ≡ length before → Waited n e from to mark before after
+  summing-waited start j s long = record { each = λ t l. wait-sum-same (λ p h. start .filled p (omega arith) h) (s .sums t (omega arith)); long = long }

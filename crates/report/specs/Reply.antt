@@ -1,53 +1,60 @@
 -- What report replies (document 01, "The report" and "Calls and refusals"), over look's reply.
-use mathlib.Core.List.{List, []}
+use mathlib.Core.Path.{_≡_}
+use mathlib.Core.List.{List, [], _∷_}
 use Prim.Native.Nat.{_<_, _≤_, ℕ}
 use lib.ListN.{length}
-use Rattle.marked.specs.Bounds.{Largest, Reduced}
+use Rattle.refusal.specs.Asking.{Ask, Given, Sound, asked}
+use Rattle.refusal.specs.declared.Refusal.{Refusal}
 use Rattle.marked.specs.Wait.{WaitSum}
 use Rattle.net.specs.Plan.{Plan}
-use Rattle.net.specs.Graph.{netOf, startOf}
-use Rattle.file.specs.Refusals.{Ask}
+use Rattle.net.specs.Graph.{netOf, startOf, timesOf}
 use Rattle.reader.specs.Reply.{shown}
-use Rattle.reader.specs.Outcome.{Ends, Outcome, accepted, refusal}
+use Rattle.reader.specs.Outcome.{Ends, accepted, refusal}
 use Rattle.reader.specs.declared.graph.Graph.{Graph}
+use Rattle.tbo.specs.TBO.{TBO}
 use Rattle.paths.specs.Longest.{TBIO, TCE, TT}
 use Rattle.circuit.specs.Chosen.{Chosen}
+use Rattle.bounds.specs.declared.measure.Measures.{Measures}
 use Rattle.pen.specs.Lines.{Put}
 use Rattle.lines.specs.Text.{refusedLine, reportText}
 use Rattle.report.specs.declared.reply.Report.{Report}
 use Rattle.report.specs.declared.reply.Report.the-variants.{Refused, Written}
 
--- The numbers of a graph's report. TBO: a / b is the largest time per token of a simple circuit of the computational graph, in lowest terms, and ring is the circuit that is handed out.
--- x, y and z are TBIO, TT and TCE. The wait of each transition is the one from the starting marking.
-pub record Numbers (g : Plan) (a b x y z : ℕ) (ring : List ℕ) (wait : ℕ → ℕ) : Type 0 where
-  pub largest : Largest (netOf g) (startOf g) a b
-  pub reduced : Reduced a b
-  pub tbio : TBIO g x
-  pub tt : TT g y
-  pub tce : TCE g z
-  pub circuit : Chosen (netOf g) (startOf g) a b ring
+-- The numbers of a graph's report: the bounds, the circuit that is handed out, and the wait of each transition from the starting marking.
+pub record Numbers (g : Plan) (v : Measures) (ring : List ℕ) (wait : ℕ → ℕ) : Type 0 where
+  pub tbo : TBO g (v .numerator) (v .denominator)
+  pub tbio : TBIO g (v .tbio)
+  pub tt : TT g (v .tt)
+  pub tce : TCE g (v .tce)
+  pub circuit : Chosen (netOf g) (startOf g) (timesOf g) (v .numerator) (v .denominator) ring
   pub waits : (t : ℕ) → t < netOf g .transitions → WaitSum (netOf g) (startOf g) t (wait t)
 
--- What each reply says, and the buffer before and after it. 14 comes first, whatever look says: the buffer has under 4,096 bytes, and nothing is written.
--- Else the text stands at the buffer's beginning, all else is as it was, and len is the text's length: the line with a refusal's number and place, or the report of look's graph.
-pub data Replies (before : List ℕ) : Outcome → Report → List ℕ → Type 0 where
-  short : {o : Outcome} → length before < 4096 → Replies before o (Refused 14 0 0) before
-  refused : {k x len : ℕ} {after : List ℕ} → 4096 ≤ length before → Put before 0 (refusedLine k x) after len → Replies before (refusal k x) (Refused k x len) after
-  written :
-      {g : Graph} {a b x y z len : ℕ} {ring after : List ℕ} {wait : ℕ → ℕ} → 4096 ≤ length before → Numbers (shown g) a b x y z ring wait
-      → Put before 0 (reportText (g .operations) (g .edges) a b x y z ring wait) after len → Replies before (accepted g) (Written len) after
+-- The text of a graph's report.
+abbrev pub textOf : Plan → Measures → List ℕ → (ℕ → ℕ) → List ℕ
+textOf g v ring wait = reportText (g .operations) (g .edges) (v .numerator) (v .denominator) (v .tbio) (v .tt) (v .tce) ring wait
+
+-- The bytes that a report's buffer must have. (No report is longer: theorem `report-fits-room`.)
+abbrev pub reportBytes : ℕ
+reportBytes = 4096
+
+-- What report asks before it looks at the file: 14.
+abbrev pub roomRows : List ℕ → List Ask
+roomRows buffer = asked 14 (reportBytes ≤ length buffer) ∷ []
 
 -- Beyond look's own rows, report asks nothing of a graph.
-abbrev pub reportRows : Graph → List Ask
+abbrev pub reportRows : Plan → List Ask
 reportRows g = []
 
--- The reply to a file f and a buffer: 14 first, then look's 1 to 9.
-pub record ReportReply (f before : List ℕ) (r : Report) (after : List ℕ) : Type 0 where
-  pub outcome : Outcome
-  pub ends : Ends f reportRows outcome
-  pub replies : Replies before outcome r after
+-- `report` of a file f and a buffer: 14 is given, and nothing is written. Else the text stands at the buffer's beginning, all else is as it was, and len is the
+-- text's length: the line with the number and the place of a refusal, 1 to 9, or the report of look's graph.
+pub data ReportReply (f before : List ℕ) : Report → List ℕ → Type 0 where
+  short : {r : Refusal} → Given (roomRows before) r → ReportReply f before (Refused r 0) before
+  refused : {r : Refusal} {len : ℕ} {after : List ℕ} → Sound (roomRows before) → Ends f reportRows (refusal r)
+      → Put before 0 (refusedLine (r .number) (r .place)) after len → ReportReply f before (Refused r len) after
+  written : {g : Graph} {v : Measures} {ring : List ℕ} {wait : ℕ → ℕ} {len : ℕ} {after : List ℕ} → Sound (roomRows before) → Ends f reportRows (accepted g)
+      → Numbers (shown g) v ring wait → Put before 0 (textOf (shown g) v ring wait) after len → ReportReply f before (Written len) after
 
 -- How many bytes a reply has written.
 abbrev pub lengthOf : Report → ℕ
 lengthOf (Written len) = len
-lengthOf (Refused k x len) = len
+lengthOf (Refused r len) = len

@@ -5,8 +5,9 @@ mod waits;
 
 use answer::answer;
 use lines::write_refused;
-use reader::graph::Verdict;
 use reader::look;
+use refusal::Refusal;
+use refusal::Verdict;
 use reply::Report;
 ghost use Rattle.report.specs.Reply.{ReportReply};
 
@@ -19,20 +20,18 @@ pub fn report(file: &[u8], buffer: &mut [u8]) -> Report
 {
     if buffer.len() < ROOM {
         return Report::Refused {
-            number: 14,
-            place: 0,
+            refusal: Refusal {
+                number: 14,
+                place: 0,
+            },
             length: 0,
         };
     }
     let looked = look(file);
     let verdict = looked.verdict;
-    if let Verdict::Refused { number, place } = verdict {
-        let length = write_refused(buffer, number, place);
-        return Report::Refused {
-            number,
-            place,
-            length,
-        };
+    if let Verdict::Refused(refusal) = verdict {
+        let length = write_refused(buffer, refusal.number, refusal.place);
+        return Report::Refused { refusal, length };
     }
     let g = looked.graph;
     answer(

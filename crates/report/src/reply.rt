@@ -1,16 +1,11 @@
 // What `report` replies; length is how many bytes it has written.
+use refusal::Refusal;
 ghost use mathlib.Core.Path.{_≡_};
 ghost use Rattle.report.specs.Reply.{lengthOf};
 
 pub enum Report {
-    Written {
-        length: usize,
-    },
-    Refused {
-        number: u8,
-        place: u16,
-        length: usize,
-    },
+    Written { length: usize },
+    Refused { refusal: Refusal, length: usize },
 }
 
 // How many bytes a reply has written, whatever it says.
@@ -21,11 +16,7 @@ pub fn length(reply: Report) -> usize
         Report::Written { length } => {
             return length;
         }
-        Report::Refused {
-            number,
-            place,
-            length,
-        } => {
+        Report::Refused { refusal, length } => {
             return length;
         }
     }

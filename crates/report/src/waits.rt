@@ -3,10 +3,7 @@ use net::EDGES;
 use net::PLACES;
 use net::start::start_marking;
 use waiting::sum::wait_sum;
-ghost use Prim.Native.Nat.{_+_, _*_, _≤_};
-ghost use lib.ListN.{length};
-ghost use Rattle.net.specs.Valid.{Single, Valid};
-ghost use Rattle.report.specs.Work.{Waited};
+ghost use Rattle.report.specs.helpers.Waited.{Waited, WaitsAsk};
 
 pub fn start_waits<'a>(
     n: usize,
@@ -16,9 +13,7 @@ pub fn start_waits<'a>(
     mark: &'a [u8; EDGES],
     waits: &mut [u32],
 )
-    requires { ⌜ Valid n e (now from) (now to) ⌝ }
-    requires { ⌜ Single n e (now mark) ⌝ }
-    requires { ⌜ 3 * n + 2 ≤ length (now waits) ⌝ }
+    requires { ⌜ WaitsAsk n e (now from) (now to) (now mark) (now waits) ⌝ }
     ensures { λ _. ⌜ Waited n e (now (from .entry)) (now (to .entry)) (now (mark .entry)) (now (waits .entry)) (now (waits .exit)) ⌝ }
 {
     let mut marking = [0u8; PLACES];

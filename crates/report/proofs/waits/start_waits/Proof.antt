@@ -35,8 +35,9 @@ slice-aggregate-wait-sum c = search needs
 
 wait-sum-requires : tie.Need-wait-sum-requires Inv-loop μ-loop
 wait-sum-requires c κs =
-    let s = c .before .before .before .before in
-    (record { valid = s .before .before .before .pre .0; long = omega (arith, s .start-marking .ensures .long, s .before .before .before .pre .0 .operations, s .before .before .before .pre .0 .edges) }, omega arith)
+    let m = c .before .before .before .before in
+    let pre = m .before .before .before .pre in
+    record { wired = pre .wired; joined = pre .joined; long = omega (arith, m .start-marking .ensures .long, pre .marked .operations, pre .marked .edges); transition = omega arith }
 
 mul-waits : tie.Need-mul-waits Inv-loop μ-loop
 mul-waits c = search needs

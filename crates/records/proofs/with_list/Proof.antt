@@ -2,8 +2,8 @@
 use mathlib.Core.Path.{sym}
 use lib.Seq.{length-take-le}
 use borrow.Author.Needs.{needs}
-use Rattle.calls_main.proofs.with_list.Statement.{statement}
-use Rattle.calls_main.proofs.with_list.Tie as tie
+use Rattle.records.proofs.with_list.Statement.{statement}
+use Rattle.records.proofs.with_list.Tie as tie
 
 entries-requires : tie.Need-entries-requires
 entries-requires c κs = search needs

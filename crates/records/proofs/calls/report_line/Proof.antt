@@ -2,8 +2,8 @@
 use mathlib.Core.Path.{sym}
 use lib.Seq.{length-take-le}
 use borrow.Author.Needs.{needs}
-use Rattle.calls_main.proofs.calls.report_line.Statement.{statement}
-use Rattle.calls_main.proofs.calls.report_line.Tie as tie
+use Rattle.records.proofs.calls.report_line.Statement.{statement}
+use Rattle.records.proofs.calls.report_line.Tie as tie
 
 room-requires : tie.Need-room-requires
 room-requires c κs = search needs

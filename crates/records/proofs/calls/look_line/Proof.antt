@@ -3,8 +3,8 @@ use denote.Ref.{now}
 use borrow.Author.Needs.{needs}
 use Rattle.reader.specs.Accepted.{Accepted}
 use Rattle.reader.proofs.Accepting.{accepted}
-use Rattle.calls_main.proofs.calls.look_line.Statement.{statement}
-use Rattle.calls_main.proofs.calls.look_line.Tie as tie
+use Rattle.records.proofs.calls.look_line.Statement.{statement}
+use Rattle.records.proofs.calls.look_line.Tie as tie
 
 -- past the test, look has accepted
 passed : (c : tie.After-enum-told) → Accepted (c .before .before .look .result .graph)

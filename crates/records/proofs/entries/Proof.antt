@@ -3,8 +3,8 @@ use mathlib.Core.Path.{_≡_}
 use Prim.Native.Nat.{_-_, _/_, _≤_}
 use lib.ListN.{length}
 use borrow.Author.Needs.{needs}
-use Rattle.calls_main.proofs.entries.Statement.{statement}
-use Rattle.calls_main.proofs.entries.Tie as tie
+use Rattle.records.proofs.entries.Statement.{statement}
+use Rattle.records.proofs.entries.Tie as tie
 
 abbrev Inv-loop : tie.InvT-loop
 Inv-loop s out₀ k₀ out k = (length out ≡ 30000) × (k ≤ length s / 2)

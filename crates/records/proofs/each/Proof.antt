@@ -2,9 +2,9 @@
 use Prim.Native.Nat.{_-_, _≤_}
 use lib.ListN.{length}
 use borrow.Author.Needs.{needs}
-use Rattle.calls_main.specs.Parts.{Twice}
-use Rattle.calls_main.proofs.each.Statement.{statement}
-use Rattle.calls_main.proofs.each.Tie as tie
+use Rattle.records.specs.Parts.{Twice}
+use Rattle.records.proofs.each.Statement.{statement}
+use Rattle.records.proofs.each.Tie as tie
 
 abbrev Inv-loop : tie.InvT-loop
 Inv-loop s copy₀ at₀ copy at = Twice s copy × (at ≤ length s)

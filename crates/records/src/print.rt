@@ -1,5 +1,6 @@
 // What a line is made of: words, numbers behind a blank, and the lent memory, which ends it.
-ghost use Rattle.calls_main.specs.Page.{Page, Roomy};
+use refusal::Refusal;
+ghost use Rattle.records.specs.Page.{Page, Roomy};
 
 // Numbers of the memory are gathered here, so that a long one takes few writes.
 const PAGE: usize = 4096;
@@ -17,10 +18,10 @@ pub fn number(x: u64) {
 }
 
 // A call's name, and its refusal's number and place, 0 0 where it is done.
-pub fn head(name: &[u8], refusal: u8, place: u16) {
+pub fn head(name: &[u8], refusal: Refusal) {
     word(name);
-    number(refusal as u64);
-    number(place as u64);
+    number(refusal.number as u64);
+    number(refusal.place as u64);
 }
 
 fn out(page: &[u8], at: usize)

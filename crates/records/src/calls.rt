@@ -6,15 +6,23 @@ use crate::print::number;
 use crate::print::word;
 use bounds::reply::Bounds;
 use reader::graph::Graph;
-use reader::graph::Verdict;
+use refusal::Refusal;
+use refusal::Verdict;
 use report::reply::Report;
-use stepping::reply::start_number;
-use stepping::reply::start_place;
-use stepping::reply::step_number;
-use stepping::reply::step_place;
+use stepping::reply::end_refusal;
+use stepping::reply::start_refusal;
+use stepping::reply::step_refusal;
 use waiting::reply::Wait;
 ghost use Prim.Native.Nat.{_≤_};
-ghost use Rattle.reader.specs.Accepted.{Accepted};
+ghost use Rattle.net.specs.Limits.{mostEdges, mostOperations};
+
+// The call is done.
+fn done() -> Refusal {
+    Refusal {
+        number: 0,
+        place: 0,
+    }
+}
 
 fn long(x: u32) -> u64 {
     x as u64
@@ -25,7 +33,7 @@ fn wide(x: u8) -> u64 {
 }
 
 fn times(xs: &[u32; Graph::OPERATIONS], n: usize)
-    requires { ⌜ n ≤ 40 ⌝ }
+    requires { ⌜ n ≤ mostOperations ⌝ }
 {
     let mut i = 0;
     while i < n {
@@ -40,7 +48,7 @@ fn rows<'a>(
     mark: &'a [u8; Graph::EDGES],
     n: usize,
 )
-    requires { ⌜ n ≤ 128 ⌝ }
+    requires { ⌜ n ≤ mostEdges ⌝ }
 {
     let mut e = 0;
     while e < n {
@@ -53,9 +61,9 @@ fn rows<'a>(
 
 // Nothing is lent to look but the file, so its memory is empty.
 fn look_graph(g: Graph)
-    requires { ⌜ Accepted g ⌝ }
+    requires { ⌜ (g .operations ≤ mostOperations) × (g .edges ≤ mostEdges) ⌝ }
 {
-    head(b"look", 0, 0);
+    head(b"look", done());
     number(g.operations as u64);
     number(g.edges as u64);
     times(&g.times, g.operations);
@@ -66,11 +74,8 @@ fn look_graph(g: Graph)
 fn look_line(file: &[u8]) {
     let looked = reader::look(file);
     let verdict = looked.verdict;
-    if let Verdict::Refused {
-        number: refusal,
-        place,
-    } = verdict {
-        head(b"look", refusal, place);
+    if let Verdict::Refused(refusal) = verdict {
+        head(b"look", refusal);
         word(b" memory\n");
         return;
     }
@@ -80,7 +85,7 @@ fn look_line(file: &[u8]) {
 
 fn start_line(file: &[u8], marking: &mut [u8]) {
     let reply = stepping::start(file, marking);
-    head(b"start", start_number(reply), start_place(reply));
+    head(b"start", start_refusal(reply));
     bytes(marking);
 }
 
@@ -94,14 +99,14 @@ fn first(list: &[u16]) -> u16 {
 
 fn step_line(file: &[u8], marking: &mut [u8], transition: u16) {
     let reply = stepping::step(file, marking, transition);
-    head(b"step", step_number(reply), step_place(reply));
+    head(b"step", step_refusal(reply));
     bytes(marking);
 }
 
 fn run_line(file: &[u8], marking: &mut [u8], list: &[u16]) {
     let reply = stepping::run(file, marking, list);
-    let answer = reply.answer;
-    head(b"run", step_number(answer), step_place(answer));
+    let end = reply.end;
+    head(b"run", end_refusal(end));
     number(reply.fired as u64);
     bytes(marking);
 }
@@ -110,14 +115,11 @@ fn wait_line(file: &[u8], marking: &[u8], transition: u16) {
     let reply = waiting::wait(file, marking, transition);
     match reply {
         Wait::Waits(firings) => {
-            head(b"wait", 0, 0);
+            head(b"wait", done());
             number(firings as u64);
         }
-        Wait::Refused {
-            number: refusal,
-            place,
-        } => {
-            head(b"wait", refusal, place);
+        Wait::Refused(refusal) => {
+            head(b"wait", refusal);
             number(0);
         }
     }
@@ -126,27 +128,17 @@ fn wait_line(file: &[u8], marking: &[u8], transition: u16) {
 
 fn bounds_values(reply: Bounds) {
     match reply {
-        Bounds::Bounded {
-            numerator,
-            denominator,
-            tbio,
-            tt,
-            tce,
-            length,
-        } => {
-            head(b"bounds", 0, 0);
-            number(numerator);
-            number(denominator);
-            number(tbio as u64);
-            number(tt as u64);
-            number(tce as u64);
-            number(length as u64);
+        Bounds::Bounded(found) => {
+            head(b"bounds", done());
+            number(found.numerator);
+            number(found.denominator);
+            number(found.tbio as u64);
+            number(found.tt as u64);
+            number(found.tce as u64);
+            number(found.length as u64);
         }
-        Bounds::Refused {
-            number: refusal,
-            place,
-        } => {
-            head(b"bounds", refusal, place);
+        Bounds::Refused(refusal) => {
+            head(b"bounds", refusal);
             word(b" 0 0 0 0 0 0");
         }
     }
@@ -174,15 +166,11 @@ fn room(asked: usize) -> usize
 fn report_values(reply: Report) {
     match reply {
         Report::Written { length } => {
-            head(b"report", 0, 0);
+            head(b"report", done());
             number(length as u64);
         }
-        Report::Refused {
-            number: refusal,
-            place,
-            length,
-        } => {
-            head(b"report", refusal, place);
+        Report::Refused { refusal, length } => {
+            head(b"report", refusal);
             number(length as u64);
         }
     }

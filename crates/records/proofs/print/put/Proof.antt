@@ -4,8 +4,8 @@ use borrow.Author.Needs.{needs}
 use Rattle.pen.specs.Lines.{item}
 use Rattle.pen.proofs.DigitLaws.{digits-short}
 use Rattle.pen.proofs.PutLaws.{put-length, put-within}
-use Rattle.calls_main.proofs.print.put.Statement.{statement}
-use Rattle.calls_main.proofs.print.put.Tie as tie
+use Rattle.records.proofs.print.put.Statement.{statement}
+use Rattle.records.proofs.print.put.Tie as tie
 
 turn-requires : tie.Need-turn-requires
 turn-requires c κs = search needs
