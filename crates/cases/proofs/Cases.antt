@@ -5,7 +5,7 @@ use Rattle.little.specs.Little.{quad, word}
 use Rattle.marked.specs.Sums.{sum, upto}
 use Rattle.marked.specs.Wait.{others}
 use Rattle.net.specs.Ends.{dstOf, srcOf, startAt, timeOf}
-use Rattle.file.specs.File.{backOf, edgeByte, edgesAt, edgesOf, operationsAt, operationsOf, timeIn, trailerAt}
+use Rattle.file.specs.File.{backOf, edgeByte, edgesAt, edgesOf, operationsAt, operationsOf, operationTime, trailerAt}
 use Rattle.reader.proofs.Total.{look-total, lookOf}
 use Rattle.paths.specs.Modified.{nodeTime}
 use Rattle.cases.specs.Files.{fileOf}
@@ -19,5 +19,5 @@ case? (case times edges said) = let f = fileOf times edges in every (said? f (lo
 
 -- P1 to P10 hold.
 pub cases-hold : P1-to-P10
-unfolding lookOf trailerAt operationsAt operationsOf edgesAt edgesOf backOf timeIn edgeByte word quad srcOf dstOf startAt timeOf sum upto others nodeTime ℕ-discrete
+unfolding lookOf trailerAt operationsAt operationsOf edgesAt edgesOf backOf operationTime edgeByte word quad srcOf dstOf startAt timeOf sum upto others nodeTime ℕ-discrete reportText headText opsLine boundLines circuitLine ringPlaces waitLines item itemLine pairLine lineEnd series digits
 cases-hold = given (every case? table) tt

@@ -4,7 +4,7 @@ pub mod Greedy
 pub mod Bounds
 pub mod Longest
 pub mod Waits
-pub mod Rows
 pub mod Calls
+pub mod Reports
 pub mod Sentences
 pub mod Cases

@@ -48,16 +48,17 @@ module _ (g : Net) (m : ℕ → ℕ) where
   abbrev pub walks : ℕ → Known
   walks a = over (λ i k. over near (g .places) k) (g .transitions) (set (replicate (g .transitions) (65535, [])) a (0, []))
 
+module _ (g : Net) (m time : ℕ → ℕ) where
   -- Potentials for a / b.
   abbrev climb : ℕ → ℕ → ℕ → Known → Known
-  climb a b p k = raise (g .dst p) (number k (g .src p) + b * g .time (g .src p) - a * m p) [] k
+  climb a b p k = raise (g .dst p) (number k (g .src p) + b * time (g .src p) - a * m p) [] k
 
   abbrev pub potentials : ℕ → ℕ → Known
   potentials a b = over (λ i k. over (climb a b) (g .places) k) (g .transitions) (replicate (g .transitions) (0, []))
 
   -- From the lowest tight place on, always the lowest tight place that leaves, until it comes round.
   abbrev tight : ℕ → ℕ → (ℕ → ℕ) → ℕ → Bool
-  tight a b D p = eqb (D (g .src p) + b * g .time (g .src p)) (D (g .dst p) + a * m p)
+  tight a b D p = eqb (D (g .src p) + b * time (g .src p)) (D (g .dst p) + a * m p)
 
   abbrev onward : ℕ → ℕ → (ℕ → ℕ) → (goal fuel v : ℕ) → List ℕ
   onward a b D goal zero v = []

@@ -5,7 +5,7 @@ use Prim.Native.Nat.{_<_, suc, zero, ℕ}
 use native.Mathlib.Omega.{arith}
 use lib.Dec.{T}
 use borrow.Author.Count.{below-more}
-use Rattle.cases.specs.Table.{Every}
+use Rattle.cases.specs.Table.{EachOf}
 
 -- What a test of A gives.
 pub data Tried (A : Type 0) : Type 0 where
@@ -51,6 +51,6 @@ below t zero = gives (λ j l. absurd (omega arith))
 below {P} t (suc n) = so (λ x j l. below-more P n (x .1) (x .0) j (omega arith)) (and (t n) (below t n))
 
 -- and of each entry of a list.
-abbrev pub every : {A : Type 0} {P : A → Type 0} → ((x : A) → Tried (P x)) → (xs : List A) → Tried (Every P xs)
+abbrev pub every : {A : Type 0} {P : A → Type 0} → ((x : A) → Tried (P x)) → (xs : List A) → Tried (EachOf P xs)
 every t [] = gives tt
 every t (x ∷ xs) = and (t x) (every t xs)

@@ -1,6 +1,6 @@
 -- Tests of distances and waits: by numbers that no place lowers, and walks that have them.
 use mathlib.Core.List.{List}
-use Prim.Native.Nat.{ℕ}
+use Prim.Native.Nat.{_<_, ℕ}
 use Rattle.marked.specs.Net.{Net, at}
 use Rattle.marked.specs.Distance.{Distances}
 use Rattle.marked.specs.Wait.{WaitSum, others}
@@ -9,7 +9,6 @@ use Rattle.marked.proofs.Check.{settled?, ways?}
 use Rattle.marked.proofs.Least.{settled-distances}
 use Rattle.net.specs.Plan.{Plan}
 use Rattle.net.specs.Graph.{netOf, startOf}
-use Rattle.cases.specs.Said.{TheWaits}
 use Rattle.cases.proofs.Trying.{Tried, and, below, so, try}
 use Rattle.cases.proofs.Searching.{Known, list, number, walks}
 
@@ -23,6 +22,6 @@ module _ (g : Net) (m : ℕ → ℕ) where
   abbrev wait? : (t w : ℕ) → (k : Known) → Tried (WaitSum g m t w)
   wait? t w k = so (λ x. record { fewest = number k; each = x .0; adds = x .1 }) (and (distances? t k) (try (eq? w (others (g .transitions) t (number k)))))
 
--- Each transition's wait.
-abbrev pub the-waits? : (g : Plan) (ws : List ℕ) → Tried (TheWaits g ws)
+-- Each transition's wait from the start.
+abbrev pub the-waits? : (g : Plan) (ws : List ℕ) → Tried ((t : ℕ) → t < netOf g .transitions → WaitSum (netOf g) (startOf g) t (at ws t))
 the-waits? g ws = below (λ t. wait? (netOf g) (startOf g) t (at ws t) (walks (netOf g) (startOf g) t)) (netOf g .transitions)

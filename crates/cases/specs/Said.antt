@@ -1,96 +1,107 @@
 -- What document 01 says of a graph that it works through, and what each sentence means in the words of the contracts.
 use mathlib.Core.Path.{_≡_}
-use mathlib.Core.List.{List, [], _∷_, _++_}
-use Prim.Native.Nat.{_<_, suc, zero, ℕ}
+use mathlib.Core.List.{List, _++_}
+use Prim.Native.Nat.{_<_, _≤_, ℕ}
+use lib.ListN.{drop, length}
+use Rattle.refusal.specs.declared.Refusal.{Refusal}
+use Rattle.refusal.specs.declared.Verdict.the-variants.{Accepted, Refused}
 use Rattle.marked.specs.Net.{at}
-use Rattle.marked.specs.Bounds.{Largest, Reduced}
-use Rattle.marked.specs.Wait.{WaitSum}
 use Rattle.net.specs.Plan.{Plan}
-use Rattle.net.specs.Graph.{netOf, startOf}
-use Rattle.file.specs.Refusals.{Ask}
-use Rattle.reader.specs.Reply.{shown}
-use Rattle.reader.specs.Outcome.{Ends, accepted, refusal}
-use Rattle.reader.specs.declared.graph.Graph.{Graph}
-use Rattle.marking.specs.Rows.{runRows}
-use Rattle.firing.specs.declared.step.Answer.the-variants.{Refused}
-use Rattle.stepping.specs.Replies.{StepReply}
+use Rattle.net.specs.Graph.{netOf, startOf, timesOf}
+use Rattle.file.specs.File.{planOf}
+use Rattle.reader.specs.Reply.{LookReply, shown}
+use Rattle.reader.specs.declared.graph.Look.{Look}
+use Rattle.firing.specs.declared.step.Answer.the-variants.{Refused as StepRefused}
+use Rattle.running.specs.declared.repeat.End.the-variants.{Refused as RunRefused}
+use Rattle.stepping.specs.declared.reply.Start.the-variants.{Started}
+use Rattle.stepping.specs.Replies.{RunReply, StartReply, StepReply}
+use Rattle.waiting.specs.declared.reply.Wait.the-variants.{Refused as WaitRefused}
+use Rattle.waiting.specs.Reply.{WaitReply}
+use Rattle.tbo.specs.TBO.{TBO}
 use Rattle.paths.specs.Longest.{TBIO, TCE, TT}
 use Rattle.circuit.specs.Chosen.{Chosen}
+use Rattle.bounds.specs.declared.measure.Measures.{Measures}
+use Rattle.report.specs.Reply.{Numbers, ReportReply, reportBytes, textOf}
+use Rattle.report.specs.declared.reply.Report.the-variants.{Written}
 
--- The tokens of the first k places, as bytes.
-abbrev pub bytes : (ℕ → ℕ) → ℕ → List ℕ
-bytes m zero = []
-bytes m (suc k) = bytes m k ++ (m k ∷ [])
+-- The refusal k at x.
+abbrev pub by : ℕ → ℕ → Refusal
+by k x = record { number = k; place = x }
 
--- The marking that start writes.
-abbrev pub started : Plan → List ℕ
-started g = bytes (startOf g) (netOf g .places)
+-- Look refuses the file, by k at x.
+pub record LookRefuses (f : List ℕ) (k x : ℕ) : Type 0 where
+  pub reply : Look
+  pub look : LookReply f reply
+  pub is : reply .verdict ≡ Refused (by k x)
 
--- The calls that refuse in document 01's cases. A marking is the start with something done to its bytes. (Step and wait ask of a marking first what run asks.)
-pub data Call : Type 0 where
-  look : Call
-  run : (List ℕ → List ℕ) → Call
+-- Look accepts the file, and P holds of the graph that it replies with.
+pub record Of (f : List ℕ) (P : Plan → Type 0) : Type 0 where
+  pub reply : Look
+  pub look : LookReply f reply
+  pub is : reply .verdict ≡ Accepted
+  pub holds : P (shown (reply .graph))
 
--- What a call asks of look's graph, beyond look's own rows.
-abbrev pub asks : Call → Graph → List Ask
-asks look g = []
-asks (run done) g = runRows (done (started (shown g))) g
+-- m is the marking that start leaves in a buffer.
+pub record Begun (f m : List ℕ) : Type 0 where
+  pub buffer : List ℕ
+  pub start : StartReply f buffer Started m
 
--- How many operations, edges, transitions and places there are.
-pub record Counts (g : Plan) (n e t p : ℕ) : Type 0 where
-  pub operations : g .operations ≡ n
-  pub edges : g .edges ≡ e
-  pub transitions : netOf g .transitions ≡ t
-  pub places : netOf g .places ≡ p
+-- A step with t from the start is refused by k at x, and nothing is written.
+pub record StepRefuses (f : List ℕ) (t k x : ℕ) : Type 0 where
+  pub marking : List ℕ
+  pub begun : Begun f marking
+  pub reply : StepReply f marking t (StepRefused (by k x)) marking
 
--- TBO is a / b: the largest time per token of a circuit, in lowest terms.
-pub record TBO (g : Plan) (a b : ℕ) : Type 0 where
-  pub largest : Largest (netOf g) (startOf g) a b
-  pub reduced : Reduced a b
+-- From the start with something done to its bytes, every step, run and wait is refused by k at x; nothing is written, and nothing fires.
+pub record MarkingRefused (f : List ℕ) (done : List ℕ → List ℕ) (k x : ℕ) : Type 0 where
+  pub marking : List ℕ
+  pub begun : Begun f marking
+  pub step : (t : ℕ) → StepReply f (done marking) t (StepRefused (by k x)) (done marking)
+  pub run : (list : List ℕ) → RunReply f (done marking) list (record { fired = 0; end = RunRefused (by k x) }) (done marking)
+  pub wait : (t : ℕ) → WaitReply f (done marking) t (WaitRefused (by k x))
+
+-- A way along edges of the algorithm graph, one at least, from one node to another.
+pub data Along (g : Plan) : ℕ → ℕ → Type 0 where
+  edge : (e : ℕ) → e < g .edges → Along g (g .from e) (g .to e)
+  onward : {b : ℕ} (e : ℕ) → e < g .edges → Along g (g .to e) b → Along g (g .from e) b
+
+-- The algorithm graph has no directed circuit.
+abbrev pub NoCircuit : Plan → Type 0
+NoCircuit g = (v : ℕ) → Along g v v → ⊥
 
 -- The circuit that is handed out: of those that attain TBO, the first.
 pub record TheCircuit (g : Plan) (ps : List ℕ) : Type 0 where
   pub above : ℕ
   pub below : ℕ
   pub tbo : TBO g above below
-  pub chosen : Chosen (netOf g) (startOf g) above below ps
+  pub chosen : Chosen (netOf g) (startOf g) (timesOf g) above below ps
 
--- Each transition's wait from the start.
-abbrev pub TheWaits : Plan → List ℕ → Type 0
-TheWaits g ws = (t : ℕ) → t < netOf g .transitions → WaitSum (netOf g) (startOf g) t (at ws t)
+-- The report of the file: its numbers, and its text, which is what `report` writes at the beginning of every buffer that has room.
+pub record ReportIs (f : List ℕ) (v : Measures) (ring waits text : List ℕ) : Type 0 where
+  pub numbers : Of f (λ g. Numbers g v ring (at waits))
+  pub says : textOf (shown (numbers .reply .graph)) v ring (at waits) ≡ text
+  pub reply : (before : List ℕ) → reportBytes ≤ length before → ReportReply f before (Written (length text)) (text ++ drop (length text) before)
 
--- The sentences: a call is refused with a number and a place; or the file is accepted, and this is so of its graph.
+-- The sentences.
 pub data Said : Type 0 where
-  refused : Call → ℕ → ℕ → Said
-  step-refused : (List ℕ → List ℕ) → ℕ → ℕ → ℕ → Said
-  counts-are : ℕ → ℕ → ℕ → ℕ → Said
+  refused : ℕ → ℕ → Said
+  no-circuit : Said
+  step-refused : ℕ → ℕ → ℕ → Said
+  marking-refused : (List ℕ → List ℕ) → ℕ → ℕ → Said
   tbo-is : ℕ → ℕ → Said
   tbio-is : ℕ → Said
   tt-is : ℕ → Said
-  tce-is : ℕ → Said
   circuit-is : List ℕ → Said
-  waits-are : List ℕ → Said
-
--- Look accepts the file, and P holds of the graph that it replies with.
-pub record Of (f : List ℕ) (P : Plan → Type 0) : Type 0 where
-  pub graph : Graph
-  pub ends : Ends f (asks look) (accepted graph)
-  pub holds : P (shown graph)
-
--- Look accepts the file, and a step with t from the start, with something done to its bytes, replies refusal k at x and leaves the bytes.
-pub record StepIs (f : List ℕ) (done : List ℕ → List ℕ) (t k x : ℕ) : Type 0 where
-  pub graph : Graph
-  pub ends : Ends f (asks look) (accepted graph)
-  pub reply : StepReply f (done (started (shown graph))) t (Refused k x) (done (started (shown graph)))
+  report-is : Measures → List ℕ → List ℕ → List ℕ → Said
 
 -- What each sentence means of a file.
 abbrev pub Holds : List ℕ → Said → Type 0
-Holds f (refused call k x) = Ends f (asks call) (refusal k x)
-Holds f (step-refused done t k x) = StepIs f done t k x
-Holds f (counts-are n e t p) = Of f (λ g. Counts g n e t p)
+Holds f (refused k x) = LookRefuses f k x
+Holds f no-circuit = NoCircuit (planOf f)
+Holds f (step-refused t k x) = StepRefuses f t k x
+Holds f (marking-refused done k x) = MarkingRefused f done k x
 Holds f (tbo-is a b) = Of f (λ g. TBO g a b)
 Holds f (tbio-is r) = Of f (λ g. TBIO g r)
 Holds f (tt-is r) = Of f (λ g. TT g r)
-Holds f (tce-is r) = Of f (λ g. TCE g r)
 Holds f (circuit-is ps) = Of f (λ g. TheCircuit g ps)
-Holds f (waits-are ws) = Of f (λ g. TheWaits g ws)
+Holds f (report-is v ring waits text) = ReportIs f v ring waits text
