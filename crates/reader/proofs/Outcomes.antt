@@ -57,3 +57,13 @@ outcome-carries {f} {g} s (passed p a h) = passed (look-carries f g s _ p) a h
 -- so their outcomes are equal.
 pub outcome-label-blind : {f g : List ℕ} {further : Plan → List Ask} {o u : Outcome} → SameButLabels f g → Ends f further o → Ends g further u → o ≡ u
 outcome-label-blind {g} {further} s p q = outcome-determined g further (outcome-carries s p) q
+
+-- No outcome is accepted and refused, and equal outcomes hold one graph, or one refusal.
+pub accepted-not-refused : {A : Type 0} {g : Graph} {r : Refusal} → accepted g ≡ refusal r → A
+accepted-not-refused e = let w : _≡_ {A = ℕ} 0 1 = cc in absurd (omega arith)
+
+pub accepted-same : {g h : Graph} → accepted g ≡ accepted h → g ≡ h
+accepted-same e = cc
+
+pub refusal-same : {r s : Refusal} → refusal r ≡ refusal s → r ≡ s
+refusal-same e = cc

@@ -1,3 +1,3 @@
 pub mod Replies
 pub mod Numbers
-pub mod Work
+pub mod helpers

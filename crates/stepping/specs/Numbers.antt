@@ -2,25 +2,37 @@
 use Prim.Native.Nat.{ℕ}
 use Rattle.firing.specs.declared.step.Answer.{Answer}
 use Rattle.firing.specs.declared.step.Answer.the-variants.{Fired, Refused}
+use Rattle.running.specs.declared.repeat.End.{End}
+use Rattle.running.specs.declared.repeat.End.the-variants.{Done, Refused as RunRefused}
 use Rattle.stepping.specs.declared.reply.Start.{Start}
 use Rattle.stepping.specs.declared.reply.Start.the-variants.{Refused as StartRefused, Started}
 
 -- The number of what `start` answers.
 abbrev pub startNumber : Start → ℕ
 startNumber Started = 0
-startNumber (StartRefused number place) = number
+startNumber (StartRefused r) = r .number
 
 -- The place of what `start` answers.
 abbrev pub startPlace : Start → ℕ
 startPlace Started = 0
-startPlace (StartRefused number place) = place
+startPlace (StartRefused r) = r .place
 
--- The number of what `step` answers, or an entry of `run`.
+-- The number of what `step` answers.
 abbrev pub stepNumber : Answer → ℕ
 stepNumber Fired = 0
-stepNumber (Refused number place) = number
+stepNumber (Refused r) = r .number
 
--- The place of what `step` answers, or an entry of `run`.
+-- The place of what `step` answers.
 abbrev pub stepPlace : Answer → ℕ
 stepPlace Fired = 0
-stepPlace (Refused number place) = place
+stepPlace (Refused r) = r .place
+
+-- The number of how a `run` ended.
+abbrev pub endNumber : End → ℕ
+endNumber Done = 0
+endNumber (RunRefused r) = r .number
+
+-- The place of how a `run` ended.
+abbrev pub endPlace : End → ℕ
+endPlace Done = 0
+endPlace (RunRefused r) = r .place

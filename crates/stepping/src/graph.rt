@@ -5,10 +5,14 @@ use firing::step::step_rows;
 use marking::accepts::accepts;
 use net::EDGES;
 use net::start::start_marking;
+use refusal::Refusal;
+use refusal::Verdict;
+use running::repeat::End;
 use running::repeat::Ran;
 use running::repeat::run_rows;
-ghost use Rattle.net.specs.Good.{Marked, Wired};
-ghost use Rattle.stepping.specs.Work.{GraphRun, GraphStarted, GraphStepped};
+ghost use Rattle.net.specs.Good.{Marked};
+ghost use Rattle.marking.specs.helpers.Wiring.{GoodWiring, plotted};
+ghost use Rattle.stepping.specs.helpers.Work.{GraphRun, GraphStarted, GraphStepped};
 
 // What stood in the buffer is no fault: only its length is tested.
 pub fn start_graph(n: usize, e: usize, mark: &[u8; EDGES], marking: &mut [u8]) -> Start
@@ -16,10 +20,10 @@ pub fn start_graph(n: usize, e: usize, mark: &[u8; EDGES], marking: &mut [u8]) -
     ensures { λ r. ⌜ GraphStarted n e (now (mark .entry)) (now (marking .entry)) r (now (marking .exit)) ⌝ }
 {
     if marking.len() != 3 * n + 2 * e {
-        return Start::Refused {
+        return Start::Refused(Refusal {
             number: 10,
             place: 0,
-        };
+        });
     }
     start_marking(n, e, mark, marking);
     Start::Started
@@ -35,13 +39,12 @@ pub fn step_graph<'a>(
     marking: &mut [u8],
     transition: u16,
 ) -> Answer
-    requires { ⌜ Wired n e (now from) (now to) ⌝ }
-    requires { ⌜ Marked n e (now mark) ⌝ }
-    ensures { λ r. ⌜ GraphStepped n e (now (from .entry)) (now (to .entry)) (now (mark .entry)) (now (marking .entry)) transition r (now (marking .exit)) ⌝ }
+    requires { ⌜ GoodWiring n e (now from) (now to) (now mark) ⌝ }
+    ensures { λ r. ⌜ GraphStepped (plotted n e (now (from .entry)) (now (to .entry)) (now (mark .entry))) (now (marking .entry)) transition r (now (marking .exit)) ⌝ }
 {
-    let number = accepts(n, e, from, to, mark, marking);
-    if number != 0 {
-        return Answer::Refused { number, place: 0 };
+    let verdict = accepts(n, e, from, to, mark, marking);
+    if let Verdict::Refused(refusal) = verdict {
+        return Answer::Refused(refusal);
     }
     step_rows(n, e, from, to, marking, transition)
 }
@@ -56,15 +59,14 @@ pub fn run_graph<'a>(
     marking: &mut [u8],
     list: &'a [u16],
 ) -> Ran
-    requires { ⌜ Wired n e (now from) (now to) ⌝ }
-    requires { ⌜ Marked n e (now mark) ⌝ }
-    ensures { λ r. ⌜ GraphRun n e (now (from .entry)) (now (to .entry)) (now (mark .entry)) (now (marking .entry)) (now (list .entry)) r (now (marking .exit)) ⌝ }
+    requires { ⌜ GoodWiring n e (now from) (now to) (now mark) ⌝ }
+    ensures { λ r. ⌜ GraphRun (plotted n e (now (from .entry)) (now (to .entry)) (now (mark .entry))) (now (marking .entry)) (now (list .entry)) r (now (marking .exit)) ⌝ }
 {
-    let number = accepts(n, e, from, to, mark, marking);
-    if number != 0 {
+    let verdict = accepts(n, e, from, to, mark, marking);
+    if let Verdict::Refused(refusal) = verdict {
         return Ran {
             fired: 0,
-            answer: Answer::Refused { number, place: 0 },
+            end: End::Refused(refusal),
         };
     }
     run_rows(n, e, from, to, marking, list)

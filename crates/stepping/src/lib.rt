@@ -9,6 +9,7 @@ use graph::step_graph;
 use refusal::Verdict;
 use reader::look;
 use reply::Start;
+use running::repeat::End;
 use running::repeat::Ran;
 ghost use Rattle.stepping.specs.Replies.{RunReply, StartReply, StepReply};
 
@@ -18,8 +19,8 @@ pub fn start(file: &[u8], marking: &mut [u8]) -> Start
 {
     let looked = look(file);
     let verdict = looked.verdict;
-    if let Verdict::Refused { number, place } = verdict {
-        return Start::Refused { number, place };
+    if let Verdict::Refused(refusal) = verdict {
+        return Start::Refused(refusal);
     }
     let g = looked.graph;
     start_graph(g.operations, g.edges, &g.mark, marking)
@@ -31,8 +32,8 @@ pub fn step(file: &[u8], marking: &mut [u8], transition: u16) -> Answer
 {
     let looked = look(file);
     let verdict = looked.verdict;
-    if let Verdict::Refused { number, place } = verdict {
-        return Answer::Refused { number, place };
+    if let Verdict::Refused(refusal) = verdict {
+        return Answer::Refused(refusal);
     }
     let g = looked.graph;
     step_graph(
@@ -52,10 +53,10 @@ pub fn run(file: &[u8], marking: &mut [u8], list: &[u16]) -> Ran
 {
     let looked = look(file);
     let verdict = looked.verdict;
-    if let Verdict::Refused { number, place } = verdict {
+    if let Verdict::Refused(refusal) = verdict {
         return Ran {
             fired: 0,
-            answer: Answer::Refused { number, place },
+            end: End::Refused(refusal),
         };
     }
     let g = looked.graph;

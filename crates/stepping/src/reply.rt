@@ -1,12 +1,14 @@
 // What `start` replies; `step` replies an `Answer`, `run` a `Ran`. And the number and the place that document 01 has for each.
 use firing::step::Answer;
+use refusal::Refusal;
+use running::repeat::End;
 ghost use mathlib.Core.Path.{_≡_};
-ghost use Rattle.stepping.specs.Numbers.{startNumber, startPlace, stepNumber, stepPlace};
+ghost use Rattle.stepping.specs.Numbers.{endNumber, endPlace, startNumber, startPlace, stepNumber, stepPlace};
 
 // The start is written, or a refusal is given.
 pub enum Start {
     Started,
-    Refused { number: u8, place: u16 },
+    Refused(Refusal),
 }
 
 // 0 where the call is done.
@@ -15,7 +17,7 @@ pub fn start_number(a: Start) -> u8
 {
     match a {
         Start::Started => 0,
-        Start::Refused { number, place } => number,
+        Start::Refused(refusal) => refusal.number,
     }
 }
 
@@ -24,7 +26,7 @@ pub fn start_place(a: Start) -> u16
 {
     match a {
         Start::Started => 0,
-        Start::Refused { number, place } => place,
+        Start::Refused(refusal) => refusal.place,
     }
 }
 
@@ -33,7 +35,7 @@ pub fn step_number(a: Answer) -> u8
 {
     match a {
         Answer::Fired => 0,
-        Answer::Refused { number, place } => number,
+        Answer::Refused(refusal) => refusal.number,
     }
 }
 
@@ -42,6 +44,24 @@ pub fn step_place(a: Answer) -> u16
 {
     match a {
         Answer::Fired => 0,
-        Answer::Refused { number, place } => place,
+        Answer::Refused(refusal) => refusal.place,
+    }
+}
+
+pub fn end_number(e: End) -> u8
+    ensures { λ r. ⌜ r ≡ endNumber e ⌝ }
+{
+    match e {
+        End::Done => 0,
+        End::Refused(refusal) => refusal.number,
+    }
+}
+
+pub fn end_place(e: End) -> u16
+    ensures { λ r. ⌜ r ≡ endPlace e ⌝ }
+{
+    match e {
+        End::Done => 0,
+        End::Refused(refusal) => refusal.place,
     }
 }

@@ -3,7 +3,6 @@ use mathlib.Core.Path.{_≡_, ap, refl, subst}
 use mathlib.Core.List.{List}
 use Prim.Native.Nat.{_≤_, ℕ}
 use native.Mathlib.Omega.{arith}
-use Rattle.refusal.specs.declared.Refusal.{Refusal}
 use Rattle.marked.specs.Net.{at}
 use Rattle.marked.specs.Wait.{Demand3, WaitSum}
 use Rattle.marked.proofs.Demand.{wait-most, wait-reached, wait-sum-unique, waits-unique}
@@ -11,12 +10,12 @@ use Rattle.net.specs.Graph.{netOf}
 use Rattle.net.proofs.Shapes.{wired-proper}
 use Rattle.file.specs.Labels.{SameButLabels}
 use Rattle.reader.specs.Reply.{LookReply, shown}
-use Rattle.reader.specs.Outcome.{Ends, Outcome, accepted, passed, refusal}
+use Rattle.reader.specs.Outcome.{passed}
 use Rattle.reader.specs.declared.graph.Graph.{Graph}
 use Rattle.reader.specs.declared.graph.Look.{Look}
 use Rattle.reader.proofs.Accepting.{accepted-good}
 use Rattle.reader.proofs.Determined.{look-determined}
-use Rattle.reader.proofs.Outcomes.{outcome-carries, outcome-determined}
+use Rattle.reader.proofs.Outcomes.{accepted-not-refused, accepted-same, outcome-carries, outcome-determined, refusal-same}
 use Rattle.marking.specs.Rows.{waitRows}
 use Rattle.waiting.specs.Reply.{WaitReply}
 use Rattle.waiting.specs.Reply.WaitReply.{refused, waits}
@@ -24,24 +23,14 @@ use Rattle.waiting.specs.Demand.{Demanded}
 use Rattle.waiting.specs.declared.reply.Wait.{Wait}
 use Rattle.waiting.specs.declared.reply.Wait.the-variants.{Refused, Waits}
 
--- No file is accepted and refused.
-never : {A : Type 0} {g : Graph} {r : Refusal} → accepted g ≡ refusal r → A
-never e = let w : _≡_ {A = ℕ} 0 1 = cc in absurd (omega arith)
-
-same-graph : {g h : Graph} → accepted g ≡ accepted h → g ≡ h
-same-graph e = cc
-
-same-refusal : {r s : Refusal} → refusal r ≡ refusal s → r ≡ s
-same-refusal e = cc
-
 -- Two replies that `WaitReply` allows are equal.
 pub wait-determined : (f m : List ℕ) (t : ℕ) (r s : Wait) → WaitReply f m t r → WaitReply f m t s → r ≡ s
 wait-determined f m t r s (waits {w = v} p x) (waits q y) =
-    let e = same-graph (outcome-determined f (waitRows m t) p q) in
+    let e = accepted-same (outcome-determined f (waitRows m t) p q) in
     ap Waits (wait-sum-unique (subst (λ (g : Graph). WaitSum (netOf (shown g)) (at m) t v) e x) y)
-wait-determined f m t r s (waits p x) (refused q) = never (outcome-determined f (waitRows m t) p q)
-wait-determined f m t r s (refused p) (waits q y) = never (outcome-determined f (waitRows m t) q p)
-wait-determined f m t r s (refused p) (refused q) = ap (λ x. Refused x) (same-refusal (outcome-determined f (waitRows m t) p q))
+wait-determined f m t r s (waits p x) (refused q) = accepted-not-refused (outcome-determined f (waitRows m t) p q)
+wait-determined f m t r s (refused p) (waits q y) = accepted-not-refused (outcome-determined f (waitRows m t) q p)
+wait-determined f m t r s (refused p) (refused q) = ap (λ x. Refused x) (refusal-same (outcome-determined f (waitRows m t) p q))
 
 -- A reply for a file is one for each file that differs only in labels,
 pub wait-carries : {f g m : List ℕ} {t : ℕ} {r : Wait} → SameButLabels f g → WaitReply f m t r → WaitReply g m t r

@@ -1,17 +1,25 @@
--- Look's refusal as it stands; else the step in look's graph, which is accepted.
+-- Look's refusal as it stands; else the step in look's graph, which is good.
 use denote.Ref.{now}
 use borrow.Author.Needs.{needs}
-use Rattle.net.specs.Good.{Good}
-use Rattle.reader.proofs.Accepting.{accepted, accepted-single, accepted-valid}
+use Rattle.reader.proofs.Accepting.{accepted-good}
+use Rattle.marking.specs.helpers.Wiring.{GoodWiring}
+use Rattle.marking.proofs.Judging.{good-wiring}
 use Rattle.stepping.proofs.Answers.{step-reply, step-unread}
 use Rattle.stepping.proofs.step.Statement.{statement}
 use Rattle.stepping.proofs.step.Tie as tie
 
--- past the test, look has accepted
-passed : (c : tie.After-enum-told) → Accepted (c .before .before .look .result .graph)
+-- From where the work is asked for to where look is known to have accepted.
+abbrev lent : tie.After-step-graph-arg4 → tie.After-g
+lent c = c .before .before .before .before .before
+
+abbrev told : tie.After-step-graph-arg4 → tie.After-enum-told
+told c = lent c .before
+
+-- Past the test, look's graph is good.
+passed : (c : tie.After-enum-told) → let g = c .before .before .look .result .graph in GoodWiring (g .operations) (g .edges) (g .from) (g .to) (g .mark)
 passed c =
     let l = c .before .before in
-    accepted (now (l .before .before .before .args .file)) (l .look .result) (c .enum-told .given .1) (l .look .ensures)
+    good-wiring (accepted-good (now (l .before .before .before .args .file)) (l .look .result) (c .enum-told .given .1) (l .look .ensures))
 
 look-requires : tie.Need-look-requires
 look-requires c κs = search needs
@@ -26,13 +34,16 @@ enum-told : tie.Need-enum-told
 enum-told c = search needs
 
 step-graph-requires : tie.Need-step-graph-requires
-step-graph-requires c κs = let a = passed (c .before .before .before .before .before .before) in (accepted-valid a, accepted-single a)
+step-graph-requires c κs = passed (told c)
 
 same-length : tie.Need-same-length
 same-length c = search needs
 
 returns-2 : tie.Need-returns-2
-returns-2 c = let k = c .before .before .before .before .before .before .before .before .before in step-reply (k .before .before .look .ensures) (k .enum-told .given .1) (c .before .before .step-graph .ensures)
+returns-2 c =
+    let r = c .before .before in
+    let k = told (r .before) in
+    step-reply (k .before .before .look .ensures) (k .enum-told .given .1) (r .step-graph .ensures)
 
 pub step-spec : {M : Type 1} → statement M
 step-spec =

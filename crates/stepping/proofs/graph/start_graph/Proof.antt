@@ -1,6 +1,6 @@
 -- The length first: `unfit`, else `filled`.
 use borrow.Author.Needs.{needs}
-use Rattle.stepping.specs.Work.GraphStarted.{filled, unfit}
+use Rattle.stepping.specs.helpers.Work.GraphStarted.{filled, unfit}
 use Rattle.stepping.proofs.graph.start_graph.Statement.{statement}
 use Rattle.stepping.proofs.graph.start_graph.Tie as tie
 
