@@ -16,7 +16,7 @@ use Rattle.marked.proofs.Walks.{ends-same, froms-append, join, length-froms, pa
 use Rattle.tight.specs.helpers.Lists.{Threaded, Listed, drawn}
 use Rattle.search.specs.helpers.Ways.{FirstNoted, Rival, Trace}
 use Rattle.search.specs.helpers.Ways.Trace.{start, step}
-use Rattle.circuit.specs.helpers.Writing.{Counted, Written}
+use Rattle.circuit.specs.helpers.Writing.{WayCounted, Written}
 
 module _ {g : Net} {T : ℕ → Type 0} where
   -- Where places of T leave from transitions, a way of them does.
@@ -136,7 +136,7 @@ pub record Fill (nt np : ℕ) (src dst : List ℕ) (root goal : ℕ) (via before
   pub others : (j : ℕ) → len ≤ j → at ring j ≡ at before j
   pub long : length ring ≡ length before
 
-pub fill-start : {nt np : ℕ} {src dst : List ℕ} {root goal : ℕ} {via before : List ℕ} {k : ℕ} → Counted nt np src dst root goal via k → Fill nt np src dst root goal via before before goal k k
+pub fill-start : {nt np : ℕ} {src dst : List ℕ} {root goal : ℕ} {via before : List ℕ} {k : ℕ} → WayCounted nt np src dst root goal via k → Fill nt np src dst root goal via before before goal k k
 fill-start {via = via} m = record { climb = climb-start via (m .noted); whole = m .count; count = omega (arith, m .count); slots = λ j h. absurd (omega arith); others = λ j h. refl; long = refl }
 
 module _ {nt np : ℕ} {next src dst : List ℕ} (o : Threaded nt np next src dst) {root goal : ℕ} (l : root < nt) {via before ring : List ℕ} {x k len : ℕ} (c : Fill nt np src dst root goal via before ring x k len) (small : nt ≤ length before) where

@@ -9,7 +9,7 @@ ghost use lib.ListN.{length};
 ghost use Rattle.marked.specs.Net.{at};
 ghost use Rattle.tight.specs.helpers.Lists.{Threaded, Listed, drawn};
 ghost use Rattle.search.specs.helpers.Ways.{FirstNoted};
-ghost use Rattle.circuit.specs.helpers.Writing.{Counted, Written};
+ghost use Rattle.circuit.specs.helpers.Writing.{WayCounted, Written};
 
 // How many places the circuit has: those that lead back from goal to root, and the one before them.
 fn count_back(
@@ -25,7 +25,7 @@ fn count_back(
     requires { ⌜ Threaded nt np (now next) (now src) (now dst) ⌝ }
     requires { ⌜ (root < nt) × (root ≢ goal) ⌝ }
     requires { ⌜ FirstNoted (drawn nt np (now src) (now dst)) (Listed (now dst)) root goal (at (now via)) ⌝ }
-    ensures { λ k. ⌜ Counted nt np (now (src .entry)) (now (dst .entry)) root goal (now (via .entry)) k ⌝ }
+    ensures { λ k. ⌜ WayCounted nt np (now (src .entry)) (now (dst .entry)) root goal (now (via .entry)) k ⌝ }
 {
     let mut x = goal;
     let mut k: usize = 1;

@@ -8,18 +8,19 @@ use lib.ListN.{length}
 use Rattle.marked.specs.Sums.{sum, upto}
 use Rattle.marked.specs.Net.{at}
 use Rattle.marked.proofs.Tallies.{upto-most}
-use Rattle.net.specs.Plan.{Plan, rows, timeIn}
+use Rattle.net.specs.Plan.{Plan, rows, timeAt}
 use Rattle.paths.specs.Longest.{effort}
-use Rattle.paths.specs.Passable.{Passable}
-use Rattle.paths.specs.Work.{Chain, Backed, total}
+use Rattle.net.specs.helpers.Relax.{total}
+use Rattle.paths.specs.helpers.Finishing.{Backed, PathTo}
 use Rattle.paths.proofs.Distinct.{path-effort}
+use Rattle.paths.proofs.Passing.{Passing, good-passing}
 
 -- The times of the operations, one by one as they are added up.
 pub times-none : (f : ℕ → ℕ) → upto f 0 ≡ 0
 unfolding upto
 times-none f = refl
 
-pub times-more : (times : List ℕ) (i : ℕ) → upto (λ (j : ℕ). timeIn times (j + 1)) (i + 1) ≡ upto (λ (j : ℕ). timeIn times (j + 1)) i + at times i
+pub times-more : (times : List ℕ) (i : ℕ) → upto (λ (j : ℕ). timeAt times (j + 1)) (i + 1) ≡ upto (λ (j : ℕ). timeAt times (j + 1)) i + at times i
 unfolding upto
 times-more times i = let same : i + 1 - 1 ≡ i = omega arith in rw add-one (omega (arith, ap (at times) same))
 
@@ -31,12 +32,12 @@ unfolding sum
 total-most m [] h = omega arith
 total-most m (x ∷ d) h = omega (arith, total-most m d (λ v. h (suc v)), h zero)
 
-pub effort-most : {g : Plan} → Passable g → effort g ≤ 40000000
-effort-most {g} ok = omega (arith, times-most (g .time) 1000000 (g .operations) (ok .timely), ok .limited .operations)
+pub effort-most : {g : Plan} → Passing g → effort g ≤ 40000000
+effort-most {g} ok = omega (arith, times-most (g .time) 1000000 (g .operations) (ok .timely), ok .operations)
 
-pub chain-most : {g : Plan} {v x : ℕ} → Passable g → Chain g v x → x ≤ effort g
-chain-most ok c = omega (arith, path-effort (ok .limited) (ok .live) (c .path), c .has)
+pub chain-most : {g : Plan} {v x : ℕ} → Passing g → PathTo g v x → x ≤ effort g
+chain-most ok c = omega (arith, path-effort ok (c .path), c .has)
 
-pub entries-most : {n e : ℕ} {times from to mark d : List ℕ} → Backed n e times from to mark d → total d ≤ 42 * effort (rows n e times from to mark)
-entries-most {n} {e} {times} {from} {to} {mark} {d} l =
-    omega (arith, total-most _ d (λ v. chain-most (l .passable) (l .chains v)), ap (λ (k : ℕ). k * effort (rows n e times from to mark)) (l .long))
+pub entries-most : {n e : ℕ} {times from to mark buffers d : List ℕ} → Backed n e times from to mark buffers d → total d ≤ 42 * effort (rows n e times from to mark buffers)
+entries-most {n} {e} {times} {from} {to} {mark} {buffers} {d} l =
+    omega (arith, total-most _ d (λ v. chain-most (good-passing (l .good)) (l .chains v)), ap (λ (k : ℕ). k * effort (rows n e times from to mark buffers)) (l .long))

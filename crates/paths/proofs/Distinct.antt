@@ -11,10 +11,9 @@ use Rattle.marked.specs.Lists.{All, Avoids, Distinct}
 use Rattle.marked.specs.Sums.{sum, upto}
 use Rattle.marked.specs.Net.{Net, Walk, tokens}
 use Rattle.marked.specs.Net.Walk.{go, stop}
-use Rattle.marked.specs.Circuits.{Live}
 use Rattle.marked.proofs.Entries.{all-map}
 use Rattle.marked.proofs.Pigeonhole.{sum-distinct}
-use Rattle.net.specs.Plan.{Limited, Plan}
+use Rattle.net.specs.Plan.{Plan}
 use Rattle.net.specs.Ends.{readOf, writeOf}
 use Rattle.net.specs.Graph.{netOf, startOf}
 use Rattle.net.proofs.Shapes.{dst-full, dst-op, src-full, src-op, start-full, start-ring}
@@ -22,6 +21,7 @@ use Rattle.paths.specs.Modified.{Path, nodeTime, pathTime}
 use Rattle.paths.specs.Modified as modified
 use Rattle.paths.specs.Longest.{effort}
 use Rattle.paths.proofs.Links.{link-enters, link-leaves, path-within, sink-ends, time-operation, time-sink, time-source}
+use Rattle.paths.proofs.Passing.{Passing}
 
 -- One place more in front of a walk, its ends given by other words.
 step : {g : Net} {a b c : ℕ} {ps : List ℕ} (p : ℕ) → p < g .places → g .src p ≡ a → g .dst p ≡ b → Walk g b c ps → Walk g a c (p ∷ ps)
@@ -38,7 +38,7 @@ record Clear (g : Plan) (a b : ℕ) : Type 0 where
 abbrev ClearTo : Plan → ℕ → ℕ → Type 0
 ClearTo g a v = v ≤ g .operations + 1 → Clear g a v
 
-module _ {g : Plan} (ok : Limited g) where
+module _ {g : Plan} (ok : Passing g) where
   -- An unmarked edge out of an operation: data read, data processed, full.
   module _ (e : ℕ) (h : e < g .edges) (k : g .mark e ≡ 0) (l : 1 ≤ g .from e) where
     row : (3 * g .operations + 2 * e - 3 * g .operations) / 2 ≡ e
@@ -74,19 +74,18 @@ module _ {g : Plan} (ok : Limited g) where
   clears (modified.go (modified.begins e h k) p) l = absurd (omega arith)
   clears (modified.go (modified.ends e h k) p) l = (λ i. absurd (omega arith), rw (sink-ends ok p (omega arith) .0) tt)
 
-  module _ (live : Live (netOf g) (startOf g)) where
-    no-ring : {a v : ℕ} → Clear g a v → a ≢ v
-    no-ring {a} c e = omega (arith, live (readOf a) (c .ps) (subst (λ (x : ℕ). Walk (netOf g) (readOf a) (readOf x) (c .ps)) (sym e) (c .walk)) (c .some), c .none)
+  no-ring : {a v : ℕ} → Clear g a v → a ≢ v
+  no-ring {a} c e = omega (arith, ok .live (readOf a) (c .ps) (subst (λ (x : ℕ). Walk (netOf g) (readOf a) (readOf x) (c .ps)) (sym e) (c .walk)) (c .some), c .none)
 
-    leaves-for-good : {a b : ℕ} {ns : List ℕ} → Path g a b ns → 1 ≤ a → Avoids a ns
-    leaves-for-good modified.stop l = tt
-    leaves-for-good {a} {ns} (modified.go k p) l =
-        all-map {P = ClearTo g a} {Q = λ (v : ℕ). a ≢ v} (λ v r i. no-ring (r (omega (arith, link-leaves ok k))) i) ns (clears (modified.go k p) l)
+  leaves-for-good : {a b : ℕ} {ns : List ℕ} → Path g a b ns → 1 ≤ a → Avoids a ns
+  leaves-for-good modified.stop l = tt
+  leaves-for-good {a} {ns} (modified.go k p) l =
+      all-map {P = ClearTo g a} {Q = λ (v : ℕ). a ≢ v} (λ v r i. no-ring (r (omega (arith, link-leaves ok k))) i) ns (clears (modified.go k p) l)
 
-    -- A path comes to no node twice.
-    pub path-distinct : {a b : ℕ} {ns : List ℕ} → Path g a b ns → Distinct ns
-    path-distinct modified.stop = tt
-    path-distinct (modified.go k p) = (leaves-for-good p (link-enters ok k), path-distinct p)
+  -- A path comes to no node twice.
+  pub path-distinct : {a b : ℕ} {ns : List ℕ} → Path g a b ns → Distinct ns
+  path-distinct modified.stop = tt
+  path-distinct (modified.go k p) = (leaves-for-good p (link-enters ok k), path-distinct p)
 
 -- The times of all nodes up to i, then of all nodes: the operations' alone count.
 module _ (g : Plan) where
@@ -108,7 +107,7 @@ module _ (g : Plan) where
       at (no k) r = omega (arith, r (omega arith), time-sink (g .operations) (g .time) m (omega arith))
 
 -- A path takes no longer than all operations together.
-pub path-effort : {g : Plan} → Limited g → Live (netOf g) (startOf g) → {a b : ℕ} {ns : List ℕ} → Path g a b ns → pathTime g ns ≤ effort g
-path-effort {g} ok live {ns} p =
+pub path-effort : {g : Plan} → Passing g → {a b : ℕ} {ns : List ℕ} → Path g a b ns → pathTime g ns ≤ effort g
+path-effort {g} ok {ns} p =
     let m : ℕ = g .operations + 2 + g .edges in
-    omega (arith, sum-distinct (times g) m ns (path-within ok p) (path-distinct ok live p), nodes-time g m (omega arith))
+    omega (arith, sum-distinct (times g) m ns (path-within ok p) (path-distinct ok p), nodes-time g m (omega arith))

@@ -1,3 +1,4 @@
+pub mod Passing
 pub mod Links
 pub mod Distinct
 pub mod Reached

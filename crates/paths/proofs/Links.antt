@@ -5,10 +5,11 @@ use Prim.Native.Nat.{_+_, _<_, _≤_, ℕ}
 use native.Mathlib.Omega.{arith}
 use borrow.Author.Tests.{le-leb, le-ltb, lt-leb, lt-ltb}
 use Rattle.marked.specs.Lists.{All}
-use Rattle.net.specs.Plan.{Limited, Plan}
-use Rattle.paths.specs.Modified.{Link, Path, nodeTime, begins, ends, go, stays, stop}
+use Rattle.net.specs.Plan.{Plan}
+use Rattle.paths.specs.Modified.{Link, Path, begins, ends, go, nodeTime, stays, stop}
+use Rattle.paths.proofs.Passing.{Passing}
 
-module _ {g : Plan} (ok : Limited g) where
+module _ {g : Plan} (ok : Passing g) where
   -- A link leaves the source or an operation,
   pub link-leaves : {a b : ℕ} → Link g a b → a ≤ g .operations
   link-leaves (stays e h k) = ok .leaves e h

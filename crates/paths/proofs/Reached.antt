@@ -9,16 +9,16 @@ use Rattle.marked.specs.Lists.{All}
 use Rattle.marked.proofs.Pigeonhole.{pigeonhole}
 use Rattle.net.specs.Plan.{Plan}
 use Rattle.paths.specs.Modified.{Link, Path, begins, go, stays, stop}
-use Rattle.paths.specs.Passable.{Passable}
 use Rattle.paths.proofs.Links.{then}
 use Rattle.paths.proofs.Distinct.{path-distinct}
+use Rattle.paths.proofs.Passing.{Passing}
 
 -- A path from the source to v.
 pub record Reached (g : Plan) (v : ℕ) : Type 0 where
   pub nodes : List ℕ
   pub path : Path g 0 v nodes
 
-module _ {g : Plan} (ok : Passable g) where
+module _ {g : Plan} (ok : Passing g) where
   -- One edge more, unmarked, at a path's end; or a marked one, which starts a path.
   along : (e : ℕ) → e < g .edges → g .mark e ≡ 0 → Reached g (g .from e) → Reached g (g .to e)
   along e h k r = record { nodes = _; path = then (r .path) (go (stays e h k) stop) }
@@ -28,15 +28,15 @@ module _ {g : Plan} (ok : Passable g) where
 
   -- k counts the nodes that the path onward from v has not come to.
   back : (k v : ℕ) {b : ℕ} (ns : List ℕ) → 1 ≤ v → v ≤ g .operations + 1 → Path g v b ns → All (_< g .operations + 2) ns → g .operations + 2 < length ns + k → Reached g v
-  back zero v ns l m p a h = absurd (omega (arith, pigeonhole (g .operations + 2) ns a (path-distinct (ok .limited) (ok .live) p)))
+  back zero v ns l m p a h = absurd (omega (arith, pigeonhole (g .operations + 2) ns a (path-distinct ok p)))
   back (suc k) v ns l m p a h =
       let i = ok .entered v l m in
       let e : ℕ = i .edge in
       subst (Reached g) (i .there) (elim (ℕ-discrete (g .mark e) 0) [
-        | no n ↦ anew e (i .within) (omega arith)
-        | yes z ↦ along e (i .within) z (elim (ℕ-discrete (g .from e) 0) [
+        | no n ↦ anew e (i .inside) (omega arith)
+        | yes z ↦ along e (i .inside) z (elim (ℕ-discrete (g .from e) 0) [
           | yes s ↦ subst⁻¹ (Reached g) s (record { nodes = []; path = stop })
-          | no n ↦ back k (g .from e) (v ∷ ns) (omega arith) (omega (arith, ok .limited .leaves e (i .within))) (go (subst (Link g (g .from e)) (i .there) (stays e (i .within) z)) p) (omega arith, a) (omega arith)
+          | no n ↦ back k (g .from e) (v ∷ ns) (omega arith) (omega (arith, ok .leaves e (i .inside))) (go (subst (Link g (g .from e)) (i .there) (stays e (i .inside) z)) p) (omega arith, a) (omega arith)
         ])
       ])
 

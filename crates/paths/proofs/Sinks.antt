@@ -8,12 +8,13 @@ use native.Mathlib.Omega.{arith}
 use Rattle.marked.specs.Sums.{sum}
 use Rattle.marked.specs.Net.{at}
 use Rattle.marked.proofs.Pigeonhole.{sum-append}
-use Rattle.net.specs.Plan.{Limited, Plan, rows, timeIn}
+use Rattle.net.specs.Plan.{Plan, rows, timeAt}
 use Rattle.paths.specs.Modified.{Link, Path, begins, ends, go, nodeTime, pathTime, stays, stop}
 use Rattle.paths.specs.Longest.{Sink, TT}
-use Rattle.paths.specs.Answers.{Finished}
-use Rattle.paths.specs.Work.{Later, Latest}
+use Rattle.paths.specs.helpers.Answers.{Finished}
+use Rattle.paths.specs.helpers.Finishing.{Later, Latest}
 use Rattle.paths.proofs.Links.{sink-ends, then, time-sink}
+use Rattle.paths.proofs.Passing.{Passing}
 
 pub latest-none : (n : ℕ) (from mark d : List ℕ) → Latest n from mark d 0 (at d (n + 1))
 latest-none n from mark d = record { sink = omega arith; fresh = λ j h m. absurd (omega arith); is = inl refl }
@@ -37,17 +38,17 @@ module _ {n : ℕ} {from mark d : List ℕ} where
             (m .is);
       }
 
-module _ {n e : ℕ} {times from to mark d : List ℕ} (ok : Limited (rows n e times from to mark)) (f : Finished n e times from to mark d) {r : ℕ} (l : Latest n from mark d e r) where
+module _ {n e : ℕ} {times from to mark buffers d : List ℕ} (ok : Passing (rows n e times from to mark buffers)) (f : Finished n e times from to mark buffers d) {r : ℕ} (l : Latest n from mark d e r) where
   abbrev plan : Plan
-  plan = rows n e times from to mark
+  plan = rows n e times from to mark buffers
 
   -- A path to b, and one node more.
   onward : {a b : ℕ} {ms : List ℕ} → Path plan 0 a ms → Link plan a b → Path plan 0 b (ms ++ b ∷ [])
   onward p k = then p (go k stop)
 
-  time-onward : (ms : List ℕ) (b : ℕ) → pathTime plan (ms ++ b ∷ []) ≡ pathTime plan ms + nodeTime n (timeIn times) b
+  time-onward : (ms : List ℕ) (b : ℕ) → pathTime plan (ms ++ b ∷ []) ≡ pathTime plan ms + nodeTime n (timeAt times) b
   unfolding sum
-  time-onward ms b = omega (arith, sum-append (nodeTime n (timeIn times)) ms (b ∷ []))
+  time-onward ms b = omega (arith, sum-append (nodeTime n (timeAt times)) ms (b ∷ []))
 
   -- No path to a sink takes more than r.
   to-sink : {a b : ℕ} {ns : List ℕ} (ms : List ℕ) → Path plan 0 a ms → a ≤ n + 1 → Path plan a b ns → n + 1 ≤ b → pathTime plan ms + pathTime plan ns ≤ r
@@ -60,7 +61,7 @@ module _ {n e : ℕ} {times from to mark d : List ℕ} (ok : Limited (rows n e t
         arith,
         f .each (at from k) m .most (at from k) ms refl p,
         l .fresh k i z,
-        time-sink n (timeIn times) (n + 2 + k) (omega arith),
+        time-sink n (timeAt times) (n + 2 + k) (omega arith),
         ap (pathTime plan) (sink-ends ok q (omega arith) .0),
       )
 
@@ -78,7 +79,7 @@ module _ {n e : ℕ} {times from to mark d : List ℕ} (ok : Limited (rows n e t
         kind = omega arith;
         nodes = w .nodes ++ (n + 2 + k) ∷ [];
         path = onward (subst (λ (u : ℕ). Path plan 0 u (w .nodes)) (w .kind) (w .path)) (ends k (is .1) (is .2));
-        has = omega (arith, time-onward (w .nodes) (n + 2 + k), time-sink n (timeIn times) (n + 2 + k) (omega arith), w .has, is .3);
+        has = omega (arith, time-onward (w .nodes) (n + 2 + k), time-sink n (timeAt times) (n + 2 + k) (omega arith), w .has, is .3);
         most = λ b ns i q. most ns i q;
       })
       (l .is)

@@ -8,7 +8,8 @@ use native.Mathlib.Omega.{arith}
 use lib.ListN.{length, set}
 use Rattle.marked.specs.Sums.{sum}
 use Rattle.marked.specs.Net.{at}
-use Rattle.paths.specs.Work.{Backed, Lifted, Swept, kept, lifted, offer, total}
+use Rattle.net.specs.helpers.Relax.{total}
+use Rattle.paths.specs.helpers.Finishing.{Backed, Lifted, EdgesSwept, doneBy, kept, lifted}
 use Rattle.paths.proofs.Offers.{inside, lifted-backed}
 
 total-rises : (d : List ℕ) (v x : ℕ) → v < length d → at d v < x → total d < total (set d v x)
@@ -23,15 +24,15 @@ differ e = let z : _≡_ {A = ℕ} 0 1 = cc in absurd (omega arith)
 pub lifted-as : {d c : List ℕ} {v w x y : ℕ} {before after : Bool} → v ≡ w → x ≡ y → Lifted d v x before c after → Lifted d w y before c after
 lifted-as ev ex l = rw (ev, ex) at l
 
-module _ {n e : ℕ} {times from to mark : List ℕ} where
-  pub swept-none : {d : List ℕ} → Backed n e times from to mark d → Swept n e times from to mark 0 d d false
+module _ {n e : ℕ} {times from to mark buffers : List ℕ} where
+  pub swept-none : {d : List ℕ} → Backed n e times from to mark buffers d → EdgesSwept n e times from to mark buffers 0 d d false
   swept-none l = record { backed = l; rises = omega arith; quiet = λ i. (refl, λ j h. absurd (omega arith)); loud = λ i. differ (sym i) }
 
-  pub swept-to : {a d : List ℕ} {x : Bool} {k m : ℕ} → k ≡ m → Swept n e times from to mark k a d x → Swept n e times from to mark m a d x
+  pub swept-to : {a d : List ℕ} {x : Bool} {k m : ℕ} → k ≡ m → EdgesSwept n e times from to mark buffers k a d x → EdgesSwept n e times from to mark buffers m a d x
   swept-to i s = rw i at s
 
   -- One edge more.
-  pub swept-more : {a b d : List ℕ} {x y : Bool} {k : ℕ} → k < e → Swept n e times from to mark k a b x → Lifted b (at to k) (offer n times from to mark b k) x d y → Swept n e times from to mark (k + 1) a d y
+  pub swept-more : {a b d : List ℕ} {x y : Bool} {k : ℕ} → k < e → EdgesSwept n e times from to mark buffers k a b x → Lifted b (at to k) (doneBy n times from to mark b k) x d y → EdgesSwept n e times from to mark buffers (k + 1) a d y
   swept-more {b} {k} h s (lifted l) =
       let more = total-rises b (at to k) _ (inside (s .backed) h) l in
       record { backed = lifted-backed (s .backed) h; rises = omega (arith, s .rises); quiet = λ i. differ i; loud = λ i. omega (arith, s .rises) }
@@ -42,7 +43,7 @@ module _ {n e : ℕ} {times from to mark : List ℕ} where
         quiet = λ i. (
           s .quiet i .0,
           λ j m. elim (ℕ-discrete j k) [
-            | yes z ↦ subst (λ (u : ℕ). offer n times from to mark b u ≤ at b (at to u)) (sym z) l
+            | yes z ↦ subst (λ (u : ℕ). doneBy n times from to mark b u ≤ at b (at to u)) (sym z) l
             | no z ↦ s .quiet i .1 j (omega arith)
           ],
         );

@@ -1,5 +1,3 @@
 pub mod Modified
 pub mod Longest
-pub mod Passable
-pub mod Answers
-pub mod Work
+pub mod helpers

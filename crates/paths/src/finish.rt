@@ -5,11 +5,11 @@ use net::OPERATIONS;
 ghost use mathlib.Core.Path.{_≡_};
 ghost use Prim.Native.Nat.{_<_, _≤_};
 ghost use Rattle.marked.specs.Net.{at};
-ghost use Rattle.net.specs.Plan.{rows, timeIn};
+ghost use Rattle.net.specs.Plan.{timeAt};
 ghost use Rattle.paths.specs.Modified.{nodeTime};
-ghost use Rattle.paths.specs.Passable.{Passable};
-ghost use Rattle.paths.specs.Answers.{Finished};
-ghost use Rattle.paths.specs.Work.{Backed, Lifted, Settles, Swept, offer};
+ghost use Rattle.net.specs.Good.{Good};
+ghost use Rattle.paths.specs.helpers.Answers.{Finished};
+ghost use Rattle.paths.specs.helpers.Finishing.{Backed, Lifted, AllDone, EdgesSwept, doneBy};
 
 // The number of a node, from a row.
 pub fn node(v: u8) -> usize
@@ -21,7 +21,7 @@ pub fn node(v: u8) -> usize
 // The time of node v: an operation's own, and none for the source and the sink.
 fn node_time(n: usize, times: &[u32; OPERATIONS], v: usize) -> u32
     requires { ⌜ n ≤ 40 ⌝ }
-    ensures { λ r. ⌜ r ≡ nodeTime n (timeIn (now (times .entry))) v ⌝ }
+    ensures { λ r. ⌜ r ≡ nodeTime n (timeAt (now (times .entry))) v ⌝ }
 {
     if 0 < v {
         if v <= n {
@@ -53,12 +53,13 @@ fn raise(
     from: &[u8; EDGES],
     to: &[u8; EDGES],
     mark: &[u8; EDGES],
+    buffers: &[u8; EDGES],
     finish: &mut [u32; NODES],
     changed: bool,
 ) -> bool
-    requires { ⌜ Backed n e (now times) (now from) (now to) (now mark) (now finish) ⌝ }
+    requires { ⌜ Backed n e (now times) (now from) (now to) (now mark) (now buffers) (now finish) ⌝ }
     requires { ⌜ k < e ⌝ }
-    ensures { λ r. ⌜ Lifted (now (finish .entry)) (at (now (to .entry)) k) (offer n (now (times .entry)) (now (from .entry)) (now (to .entry)) (now (mark .entry)) (now (finish .entry)) k) changed (now (finish .exit)) r ⌝ }
+    ensures { λ r. ⌜ Lifted (now (finish .entry)) (at (now (to .entry)) k) (doneBy n (now (times .entry)) (now (from .entry)) (now (to .entry)) (now (mark .entry)) (now (finish .entry)) k) changed (now (finish .exit)) r ⌝ }
 {
     let b = node(to[k]);
     let own = node_time(n, times, b);
@@ -78,15 +79,16 @@ fn sweep(
     from: &[u8; EDGES],
     to: &[u8; EDGES],
     mark: &[u8; EDGES],
+    buffers: &[u8; EDGES],
     finish: &mut [u32; NODES],
 ) -> bool
-    requires { ⌜ Backed n e (now times) (now from) (now to) (now mark) (now finish) ⌝ }
-    ensures { λ r. ⌜ Swept n e (now (times .entry)) (now (from .entry)) (now (to .entry)) (now (mark .entry)) e (now (finish .entry)) (now (finish .exit)) r ⌝ }
+    requires { ⌜ Backed n e (now times) (now from) (now to) (now mark) (now buffers) (now finish) ⌝ }
+    ensures { λ r. ⌜ EdgesSwept n e (now (times .entry)) (now (from .entry)) (now (to .entry)) (now (mark .entry)) (now (buffers .entry)) e (now (finish .entry)) (now (finish .exit)) r ⌝ }
 {
     let mut changed = false;
     let mut k = 0;
     while k < e {
-        changed = raise(n, e, k, times, from, to, mark, finish, changed);
+        changed = raise(n, e, k, times, from, to, mark, buffers, finish, changed);
         k += 1;
     }
     changed
@@ -100,12 +102,13 @@ fn settle(
     from: &[u8; EDGES],
     to: &[u8; EDGES],
     mark: &[u8; EDGES],
+    buffers: &[u8; EDGES],
     finish: &mut [u32; NODES],
 )
-    requires { ⌜ Backed n e (now times) (now from) (now to) (now mark) (now finish) ⌝ }
-    ensures { λ _. ⌜ Settles n e (now (times .entry)) (now (from .entry)) (now (to .entry)) (now (mark .entry)) (now (finish .exit)) ⌝ }
+    requires { ⌜ Backed n e (now times) (now from) (now to) (now mark) (now buffers) (now finish) ⌝ }
+    ensures { λ _. ⌜ AllDone n e (now (times .entry)) (now (from .entry)) (now (to .entry)) (now (mark .entry)) (now (buffers .entry)) (now (finish .exit)) ⌝ }
 {
-    while sweep(n, e, times, from, to, mark, finish) {}
+    while sweep(n, e, times, from, to, mark, buffers, finish) {}
 }
 
 // When each node is done if nothing but data is waited for: the largest sum on a path from the source.
@@ -116,11 +119,12 @@ pub fn finishes(
     from: &[u8; EDGES],
     to: &[u8; EDGES],
     mark: &[u8; EDGES],
+    buffers: &[u8; EDGES],
 ) -> [u32; NODES]
-    requires { ⌜ Passable (rows n e (now times) (now from) (now to) (now mark)) ⌝ }
-    ensures { λ r. ⌜ Finished n e (now (times .entry)) (now (from .entry)) (now (to .entry)) (now (mark .entry)) r ⌝ }
+    requires { ⌜ Good n e (now times) (now from) (now to) (now mark) (now buffers) ⌝ }
+    ensures { λ r. ⌜ Finished n e (now (times .entry)) (now (from .entry)) (now (to .entry)) (now (mark .entry)) (now (buffers .entry)) r ⌝ }
 {
     let mut finish = [0; NODES];
-    settle(n, e, times, from, to, mark, &mut finish);
+    settle(n, e, times, from, to, mark, buffers, &mut finish);
     finish
 }

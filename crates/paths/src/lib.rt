@@ -8,10 +8,10 @@ ghost use mathlib.Core.Path.{_≡_};
 ghost use Prim.Native.Nat.{ℕ, _+_, _<_, _≤_};
 ghost use Rattle.marked.specs.Sums.{upto};
 ghost use Rattle.marked.specs.Net.{at};
-ghost use Rattle.net.specs.Plan.{rows, timeIn};
-ghost use Rattle.paths.specs.Passable.{Passable};
-ghost use Rattle.paths.specs.Answers.{Told};
-ghost use Rattle.paths.specs.Work.{Latest, Later};
+ghost use Rattle.net.specs.Plan.{timeAt};
+ghost use Rattle.net.specs.Good.{Good};
+ghost use Rattle.paths.specs.helpers.Answers.{SumsOf};
+ghost use Rattle.paths.specs.helpers.Finishing.{Later, Latest};
 
 pub mod finish;
 
@@ -52,8 +52,8 @@ fn latest(n: usize, e: usize, from: &[u8; EDGES], mark: &[u8; EDGES], finish: &[
 
 // The sum of all operation times.
 fn all_times(n: usize, times: &[u32; OPERATIONS]) -> u32
-    requires { ⌜ (n ≤ 40) × ((i : ℕ) → 1 ≤ i → i ≤ n → timeIn (now times) i ≤ 1000000) ⌝ }
-    ensures { λ r. ⌜ r ≡ upto (λ (i : ℕ). timeIn (now (times .entry)) (i + 1)) n ⌝ }
+    requires { ⌜ (n ≤ 40) × ((i : ℕ) → 1 ≤ i → i ≤ n → timeAt (now times) i ≤ 1000000) ⌝ }
+    ensures { λ r. ⌜ r ≡ upto (λ (i : ℕ). timeAt (now (times .entry)) (i + 1)) n ⌝ }
 {
     let mut sum = 0;
     let mut i = 0;
@@ -72,11 +72,12 @@ pub fn path_sums(
     from: &[u8; EDGES],
     to: &[u8; EDGES],
     mark: &[u8; EDGES],
+    buffers: &[u8; EDGES],
 ) -> Sums
-    requires { ⌜ Passable (rows n e (now times) (now from) (now to) (now mark)) ⌝ }
-    ensures { λ r. ⌜ Told n e (now (times .entry)) (now (from .entry)) (now (to .entry)) (now (mark .entry)) r ⌝ }
+    requires { ⌜ Good n e (now times) (now from) (now to) (now mark) (now buffers) ⌝ }
+    ensures { λ r. ⌜ SumsOf n e (now (times .entry)) (now (from .entry)) (now (to .entry)) (now (mark .entry)) (now (buffers .entry)) r ⌝ }
 {
-    let finish = finishes(n, e, times, from, to, mark);
+    let finish = finishes(n, e, times, from, to, mark, buffers);
     let tbio = finish[n + 1];
     let tt = latest(n, e, from, mark, &finish);
     let tce = all_times(n, times);

@@ -8,7 +8,7 @@ use Rattle.tight.specs.helpers.Lists.{Listed, drawn}
 use Rattle.search.specs.helpers.Ways.{First, FirstNoted}
 
 -- The way that via notes has one place less than k.
-pub record Counted (nt np : ℕ) (src dst : List ℕ) (root goal : ℕ) (via : List ℕ) (k : ℕ) : Type 0 where
+pub record WayCounted (nt np : ℕ) (src dst : List ℕ) (root goal : ℕ) (via : List ℕ) (k : ℕ) : Type 0 where
   pub noted : FirstNoted (drawn nt np src dst) (Listed dst) root goal (at via)
   pub count : k ≡ 1 + length (noted .way)
 

@@ -4,19 +4,19 @@ use mathlib.Core.Path.{_≡_, _∙_, ap}
 use native.Mathlib.Omega.{arith}
 use denote.Ref.{now}
 use Rattle.marked.specs.Sums.{upto}
-use Rattle.net.specs.Plan.{timeIn}
+use Rattle.net.specs.Plan.{timeAt}
 use Rattle.paths.proofs.Bounded.{times-more, times-most, times-none}
 use Rattle.paths.proofs.all_times.Statement.{statement}
 use Rattle.paths.proofs.all_times.Tie as tie
 
 abbrev Inv-loop : tie.InvT-loop
-Inv-loop n times sum₀ i₀ sum i = (i ≤ n) × (sum ≡ upto (λ (j : ℕ). timeIn times (j + 1)) i)
+Inv-loop n times sum₀ i₀ sum i = (i ≤ n) × (sum ≡ upto (λ (j : ℕ). timeAt times (j + 1)) i)
 
 abbrev μ-loop : tie.MeasureT-loop
 μ-loop n times sum₀ i₀ sum i = n - i
 
 loop-holds : tie.Need-loop-holds Inv-loop μ-loop
-loop-holds c = (omega arith, omega (arith, times-none (λ (j : ℕ). timeIn (c .args .times .now) (j + 1))))
+loop-holds c = (omega arith, omega (arith, times-none (λ (j : ℕ). timeAt (c .args .times .now) (j + 1))))
 
 mul-sum : tie.Need-mul-sum Inv-loop μ-loop
 mul-sum c = omega arith
@@ -25,7 +25,7 @@ element-copy-out-sum : tie.Need-element-copy-out-sum Inv-loop μ-loop
 element-copy-out-sum c = omega arith
 
 add-sum : tie.Need-add-sum Inv-loop μ-loop
-add-sum c = let s = c .before .before .before in let i = c .before .before .loop .i in omega (arith, times-more (now (s .args .times)) i, times-most (timeIn (now (s .args .times))) 1000000 (i + 1) (λ j h k. s .pre .1 j h (omega arith)))
+add-sum c = let s = c .before .before .before in let i = c .before .before .loop .i in omega (arith, times-more (now (s .args .times)) i, times-most (timeAt (now (s .args .times))) 1000000 (i + 1) (λ j h k. s .pre .1 j h (omega arith)))
 
 add-i : tie.Need-add-i Inv-loop μ-loop
 add-i c = omega arith
@@ -37,7 +37,7 @@ loop-again : tie.Need-loop-again Inv-loop μ-loop
 loop-again c = (omega arith, omega (arith, times-more (now (c .before .before .before .args .times)) (c .before .before .loop .i), c .before .before .loop .inv .1))
 
 returns : tie.Need-returns Inv-loop μ-loop
-returns c = let all : c .before .loop .i ≡ c .before .before .args .n = omega arith in c .before .loop .inv .1 ∙ ap (upto (λ (j : ℕ). timeIn (now (c .before .before .args .times)) (j + 1))) all
+returns c = let all : c .before .loop .i ≡ c .before .before .args .n = omega arith in c .before .loop .inv .1 ∙ ap (upto (λ (j : ℕ). timeAt (now (c .before .before .args .times)) (j + 1))) all
 
 pub all-times-spec : {M : Type 1} → statement M
 all-times-spec =

@@ -3,7 +3,7 @@ use Rattle.paths.proofs.Sinks.{latest-more, latest-none, latest-to}
 use Prim.Native.Nat.{_-_, _≤_}
 use native.Mathlib.Omega.{arith}
 use denote.Ref.{now}
-use Rattle.paths.specs.Work.{Latest}
+use Rattle.paths.specs.helpers.Finishing.{Latest}
 use Rattle.paths.proofs.latest.Statement.{statement}
 use Rattle.paths.proofs.latest.Tie as tie
 
@@ -35,10 +35,18 @@ element-copy-out-later : tie.Need-element-copy-out-later Inv-loop μ-loop
 element-copy-out-later c = omega arith
 
 mul-later : tie.Need-mul-later Inv-loop μ-loop
-mul-later c = omega (arith, c .before .before .before .before .before .before .pre .2 (c .before .before .before .before .loop .k) (omega arith), c .before .node .ensures)
+mul-later c =
+    let at-node = c .before in
+    let at-loop = at-node .before .before .before in
+    let start = at-loop .before .before in
+    omega (arith, start .pre .2 (at-loop .loop .k) (omega arith), at-node .node .ensures)
 
 element-copy-out-later-2 : tie.Need-element-copy-out-later-2 Inv-loop μ-loop
-element-copy-out-later-2 c = omega (arith, c .before .before .before .before .before .before .pre .2 (c .before .before .before .before .loop .k) (omega arith), c .before .node .ensures)
+element-copy-out-later-2 c =
+    let at-node = c .before in
+    let at-loop = at-node .before .before .before in
+    let start = at-loop .before .before in
+    omega (arith, start .pre .2 (at-loop .loop .k) (omega arith), at-node .node .ensures)
 
 later-requires : tie.Need-later-requires Inv-loop μ-loop
 later-requires c κs = tt
@@ -50,7 +58,10 @@ loop-less : tie.Need-loop-less Inv-loop μ-loop
 loop-less c = omega arith
 
 loop-again : tie.Need-loop-again Inv-loop μ-loop
-loop-again c = (omega arith, latest-more (c .before .before .before .before .before .before .loop .inv .1) (c .before .before .before .node .ensures) (c .later .ensures))
+loop-again c =
+    let at-node = c .before .before .before in
+    let at-loop = at-node .before .before .before in
+    (omega arith, latest-more (at-loop .loop .inv .1) (at-node .node .ensures) (c .later .ensures))
 
 returns : tie.Need-returns Inv-loop μ-loop
 returns c = latest-to (omega arith) (c .before .loop .inv .1)

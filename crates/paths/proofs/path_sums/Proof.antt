@@ -1,3 +1,4 @@
+use Rattle.paths.proofs.Passing.{good-passing}
 -- `path_sums` reads TBIO at the data sink, TT at the last sink, and TCE off the times.
 use Prim.Native.Nat.{_+_}
 use native.Mathlib.Omega.{arith}
@@ -22,10 +23,20 @@ latest-requires : tie.Need-latest-requires
 latest-requires c κs = search needs
 
 all-times-requires : tie.Need-all-times-requires
-all-times-requires c κs = search needs
+all-times-requires c κs =
+    let start = c .before .before .before in
+    (start .pre .wired .operations, good-passing (start .pre) .timely)
 
 returns : tie.Need-returns
-returns c = record { tbio = c .before .before .before .finishes .ensures .each (c .before .before .before .before .args .n + 1) (omega arith); tt = latest-tt (c .before .before .before .before .pre .limited) (c .before .before .before .finishes .ensures) (c .before .latest .ensures); tce = c .all-times .ensures }
+returns c =
+    let at-latest = c .before in
+    let at-finishes = at-latest .before .before in
+    let start = at-finishes .before in
+    record {
+    tbio = at-finishes .finishes .ensures .each (start .args .n + 1) (omega arith);
+    tt = latest-tt (good-passing (start .pre)) (at-finishes .finishes .ensures) (at-latest .latest .ensures);
+    tce = c .all-times .ensures;
+    }
 
 pub path-sums-spec : {M : Type 1} → statement M
 path-sums-spec =

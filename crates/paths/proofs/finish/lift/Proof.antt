@@ -1,6 +1,6 @@
 -- `lift` raises the entry where it is lower, and else keeps the array.
 use native.Mathlib.Omega.{arith}
-use Rattle.paths.specs.Work.{kept, lifted}
+use Rattle.paths.specs.helpers.Finishing.{kept, lifted}
 use borrow.Author.Needs.{needs}
 use Rattle.paths.proofs.finish.lift.Statement.{statement}
 use Rattle.paths.proofs.finish.lift.Tie as tie

@@ -1,4 +1,5 @@
--- `raise` lifts the target to the edge's offer, which a path takes and is no more than all operations take.
+use Rattle.paths.proofs.Passing.{good-passing}
+-- `raise` lifts the target to the edge's doneBy, which a path takes and is no more than all operations take.
 use Rattle.paths.proofs.Offers.{offered, origin-in, read-marked, read-unmarked, target-in}
 use Rattle.paths.proofs.Sweeps.{lifted-as}
 use native.Mathlib.Omega.{arith}
@@ -26,34 +27,56 @@ node-requires-2 : tie.Need-node-requires-2
 node-requires-2 c κs = search needs
 
 mul-x : tie.Need-mul-x
-mul-x c = let s = c .before .before .before .before .before .before .before in omega (arith, origin-in (s .pre .0) (s .pre .1))
+mul-x c =
+    let at-node = c .before .before .before .before .before in
+    let start = at-node .before .before in
+    omega (arith, origin-in (start .pre .0) (start .pre .1))
 
 element-copy-out-x : tie.Need-element-copy-out-x
-element-copy-out-x c = let s = c .before .before .before .before .before .before .before in omega (arith, origin-in (s .pre .0) (s .pre .1))
+element-copy-out-x c =
+    let at-node = c .before .before .before .before .before in
+    let start = at-node .before .before in
+    omega (arith, origin-in (start .pre .0) (start .pre .1))
 
 add-x : tie.Need-add-x
 add-x c =
-    let s = c .before .before .before .before .before .before .before .before in
-    let edge = read-unmarked (s .pre .0) (s .pre .1) (c .before .before .before .before .before .before .node .ensures) (c .before .before .before .before .before .node-time .ensures) (c .before .before .before .if1 .taken) (c .before .node2 .ensures) in
-    omega (arith, chain-most (s .pre .0 .passable) (offered (s .pre .0) (s .pre .1)), effort-most (s .pre .0 .passable))
+    let at-node2 = c .before in
+    let at-if1 = at-node2 .before .before in
+    let at-node-time = at-if1 .before .before in
+    let at-node = at-node-time .before in
+    let start = at-node .before .before in
+    let edge = read-unmarked (start .pre .0) (start .pre .1) (at-node .node .ensures) (at-node-time .node-time .ensures) (at-if1 .if1 .taken) (at-node2 .node2 .ensures) in
+    let ok = good-passing (start .pre .0 .good) in
+    omega (arith, chain-most ok (offered (start .pre .0) (start .pre .1)), effort-most ok)
 
 lift-requires : tie.Need-lift-requires
-lift-requires c κs = let s = c .before .before .before .before .before .before .before .before .before in omega (arith, target-in (s .pre .0) (s .pre .1))
+lift-requires c κs =
+    let at-if12 = c .before .before .before .before .before in
+    let start = at-if12 .before .before .before .before in
+    omega (arith, target-in (start .pre .0) (start .pre .1))
 
 returns : tie.Need-returns
 returns c =
-    let s = c .before .before .before .before .before .before .before .before .before .before in
-    let target = c .before .before .before .before .before .before .before .before .node .ensures in
-    lifted-as target (read-unmarked (s .pre .0) (s .pre .1) target (c .before .before .before .before .before .before .before .node-time .ensures) (c .before .before .before .before .before .if1 .taken) (c .before .before .before .node2 .ensures)) (c .lift .ensures)
+    let at-node2 = c .before .before .before in
+    let at-if1 = at-node2 .before .before in
+    let at-node-time = at-if1 .before .before in
+    let at-node = at-node-time .before in
+    let start = at-node .before .before in
+    lifted-as (at-node .node .ensures) (read-unmarked (start .pre .0) (start .pre .1) (at-node .node .ensures) (at-node-time .node-time .ensures) (at-if1 .if1 .taken) (at-node2 .node2 .ensures)) (c .lift .ensures)
 
 lift-requires-2 : tie.Need-lift-requires-2
-lift-requires-2 c κs = let s = c .before .before .before .before .before .before in omega (arith, target-in (s .pre .0) (s .pre .1))
+lift-requires-2 c κs =
+    let at-node-arg = c .before .before .before .before .before in
+    let start = at-node-arg .before in
+    omega (arith, target-in (start .pre .0) (start .pre .1))
 
 returns-2 : tie.Need-returns-2
 returns-2 c =
-    let s = c .before .before .before .before .before .before .before in
-    let target = c .before .before .before .before .before .node .ensures in
-    lifted-as target (read-marked (s .pre .0) (s .pre .1) target (c .before .before .before .before .node-time .ensures) (c .before .before .if1 .left)) (c .lift2 .ensures)
+    let at-if1 = c .before .before in
+    let at-node-time = at-if1 .before .before in
+    let at-node = at-node-time .before in
+    let start = at-node .before .before in
+    lifted-as (at-node .node .ensures) (read-marked (start .pre .0) (start .pre .1) (at-node .node .ensures) (at-node-time .node-time .ensures) (at-if1 .if1 .left)) (c .lift2 .ensures)
 
 pub raise-spec : {M : Type 1} → statement M
 raise-spec =

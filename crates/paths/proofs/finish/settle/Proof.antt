@@ -3,16 +3,17 @@ use Prim.Native.Nat.{_*_, _-_}
 use native.Mathlib.Omega.{arith}
 use Rattle.net.specs.Plan.{rows}
 use Rattle.paths.specs.Longest.{effort}
-use Rattle.paths.specs.Work.{Backed, total}
+use Rattle.net.specs.helpers.Relax.{total}
+use Rattle.paths.specs.helpers.Finishing.{Backed}
 use Rattle.paths.proofs.Bounded.{entries-most}
 use Rattle.paths.proofs.finish.settle.Statement.{statement}
 use Rattle.paths.proofs.finish.settle.Tie as tie
 
 abbrev Inv-loop : tie.InvT-loop
-Inv-loop n e times from to mark finish₀ finish = Backed n e times from to mark finish
+Inv-loop n e times from to mark buffers finish₀ finish = Backed n e times from to mark buffers finish
 
 abbrev μ-loop : tie.MeasureT-loop
-μ-loop n e times from to mark finish₀ finish = 42 * effort (rows n e times from to mark) - total finish
+μ-loop n e times from to mark buffers finish₀ finish = 42 * effort (rows n e times from to mark buffers) - total finish
 
 loop-holds : tie.Need-loop-holds Inv-loop μ-loop
 loop-holds c = c .pre

@@ -2,15 +2,15 @@
 use Rattle.paths.proofs.Sweeps.{swept-more, swept-none, swept-to}
 use Prim.Native.Nat.{_-_, _≤_}
 use native.Mathlib.Omega.{arith}
-use Rattle.paths.specs.Work.{Swept}
+use Rattle.paths.specs.helpers.Finishing.{EdgesSwept}
 use Rattle.paths.proofs.finish.sweep.Statement.{statement}
 use Rattle.paths.proofs.finish.sweep.Tie as tie
 
 abbrev Inv-loop : tie.InvT-loop
-Inv-loop n e times from to mark finish₀ changed₀ k₀ finish changed k = (k ≤ e) × Swept n e times from to mark k finish₀ finish changed
+Inv-loop n e times from to mark buffers finish₀ changed₀ k₀ finish changed k = (k ≤ e) × EdgesSwept n e times from to mark buffers k finish₀ finish changed
 
 abbrev μ-loop : tie.MeasureT-loop
-μ-loop n e times from to mark finish₀ changed₀ k₀ finish changed k = e - k
+μ-loop n e times from to mark buffers finish₀ changed₀ k₀ finish changed k = e - k
 
 loop-holds : tie.Need-loop-holds Inv-loop μ-loop
 loop-holds c = (omega arith, swept-none (c .pre))
