@@ -6,8 +6,8 @@ use crate::print::number;
 use crate::print::word;
 use bounds::reply::Bounds;
 use reader::graph::Graph;
-use refusal::Refusal;
 use refusal::Verdict;
+use refusal::none;
 use report::reply::Report;
 use stepping::reply::end_refusal;
 use stepping::reply::start_refusal;
@@ -15,14 +15,6 @@ use stepping::reply::step_refusal;
 use waiting::reply::Wait;
 ghost use Prim.Native.Nat.{_≤_};
 ghost use Rattle.net.specs.Limits.{mostEdges, mostOperations};
-
-// The call is done.
-fn done() -> Refusal {
-    Refusal {
-        number: 0,
-        place: 0,
-    }
-}
 
 fn long(x: u32) -> u64 {
     x as u64
@@ -63,7 +55,7 @@ fn rows<'a>(
 fn look_graph(g: Graph)
     requires { ⌜ (g .operations ≤ mostOperations) × (g .edges ≤ mostEdges) ⌝ }
 {
-    head(b"look", done());
+    head(b"look", none());
     number(g.operations as u64);
     number(g.edges as u64);
     times(&g.times, g.operations);
@@ -115,7 +107,7 @@ fn wait_line(file: &[u8], marking: &[u8], transition: u16) {
     let reply = waiting::wait(file, marking, transition);
     match reply {
         Wait::Waits(firings) => {
-            head(b"wait", done());
+            head(b"wait", none());
             number(firings as u64);
         }
         Wait::Refused(refusal) => {
@@ -129,7 +121,7 @@ fn wait_line(file: &[u8], marking: &[u8], transition: u16) {
 fn bounds_values(reply: Bounds) {
     match reply {
         Bounds::Bounded(found) => {
-            head(b"bounds", done());
+            head(b"bounds", none());
             number(found.numerator);
             number(found.denominator);
             number(found.tbio as u64);
@@ -166,7 +158,7 @@ fn room(asked: usize) -> usize
 fn report_values(reply: Report) {
     match reply {
         Report::Written { length } => {
-            head(b"report", done());
+            head(b"report", none());
             number(length as u64);
         }
         Report::Refused { refusal, length } => {

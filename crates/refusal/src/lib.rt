@@ -2,6 +2,7 @@
 ghost use mathlib.Core.Path.{_≡_};
 ghost use Prim.Native.Nat.{_<_};
 ghost use Rattle.refusal.specs.declared.Verdict.the-variants.{Refused};
+ghost use Rattle.refusal.specs.None.{noRefusal, refusalOf};
 
 // The number of the rule that is broken, and the place that it reports.
 pub struct Refusal {
@@ -30,4 +31,24 @@ pub fn refuse(number: u8, place: usize) -> Verdict
         number: number,
         place: place as u16,
     })
+}
+
+// Nothing is refused.
+pub fn none() -> Refusal
+    ensures { λ r. ⌜ r ≡ noRefusal ⌝ }
+{
+    Refusal {
+        number: 0,
+        place: 0,
+    }
+}
+
+// The refusal of a verdict.
+pub fn refusal_of(v: Verdict) -> Refusal
+    ensures { λ r. ⌜ r ≡ refusalOf v ⌝ }
+{
+    match v {
+        Verdict::Accepted => none(),
+        Verdict::Refused(refusal) => refusal,
+    }
 }
