@@ -14,7 +14,7 @@ fn numbers<T: std::fmt::Display>(xs: &[T]) -> String {
     xs.iter().map(|x| format!(" {x}")).collect()
 }
 
-fn record(letter: u8, f: &[u8], list: &[u16], m: &[u8]) -> Vec<u8> {
+pub fn record(letter: u8, f: &[u8], list: &[u16], m: &[u8]) -> Vec<u8> {
     let mut r = vec![letter];
     r.extend((f.len() as u16).to_le_bytes());
     r.extend(f);
@@ -73,7 +73,7 @@ pub fn run(f: &[u8], m: &mut [u8], list: &[u16]) -> (Result<(), Refusal>, usize)
     (Ok(()), list.len())
 }
 
-fn wait(f: &[u8], m: &[u8], t: u16) -> Result<u64, Refusal> {
+pub fn wait(f: &[u8], m: &[u8], t: u16) -> Result<u64, Refusal> {
     let g = look(f)?;
     accepts(&g, m)?;
     if t as usize >= g.transitions() {
@@ -82,7 +82,7 @@ fn wait(f: &[u8], m: &[u8], t: u16) -> Result<u64, Refusal> {
     Ok(g.wait(m, t as usize))
 }
 
-fn bounds(f: &[u8], out: &mut [u16]) -> Result<[u64; 6], Refusal> {
+pub fn bounds(f: &[u8], out: &mut [u16]) -> Result<[u64; 6], Refusal> {
     let g = look(f)?;
     if out.len() < g.transitions() {
         return Err((14, 0));
