@@ -1,5 +1,16 @@
 // The calls of include/amg.h, and a case of one: a record of docs/CALLS.md that can be made again and again, and timed.
-use std::time::{Duration, Instant};
+use std::time::Duration;
+
+extern "C" {
+    fn clock_gettime(clock: i32, now: *mut [i64; 2]) -> i32;
+}
+
+// The processor's time of this thread so far (Linux's clock 3): what else runs on the machine does not count.
+pub fn spent() -> Duration {
+    let mut now = [0; 2];
+    unsafe { clock_gettime(3, &mut now) };
+    Duration::new(now[0] as u64, now[1] as u32)
+}
 
 #[link(name = "amg", kind = "static")]
 extern "C" {
@@ -73,20 +84,21 @@ impl Case {
         }
     }
 
-    // Nanoseconds a call: the best of short batches, which nothing else on the machine disturbs.
+    // Nanoseconds a call: the best of short batches, of the processor's time.
     pub fn time(&self, copy: &mut Copy, total: Duration) -> f64 {
-        let before = Instant::now();
+        let began = spent();
         self.make(copy);
-        let once = before.elapsed().as_nanos().max(50);
+        let once = (spent() - began).as_nanos().max(50);
         let many = (100_000 / once).clamp(1, 10_000);
-        let (mut best, began) = (f64::MAX, Instant::now());
+        let mut best = f64::MAX;
         loop {
-            let before = Instant::now();
+            let before = spent();
             for _ in 0..many {
                 std::hint::black_box(self.make(std::hint::black_box(copy)));
             }
-            best = best.min(before.elapsed().as_nanos() as f64 / many as f64);
-            if began.elapsed() >= total {
+            let after = spent();
+            best = best.min((after - before).as_nanos() as f64 / many as f64);
+            if after - began >= total {
                 return best;
             }
         }

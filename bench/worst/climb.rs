@@ -1,15 +1,15 @@
-// climb LETTER NUMBER SECONDS SEED OUT [CASE]: looks for a graph on which a call takes long, and writes its record to OUT.
-// NUMBER is what the call must answer: 0 where it is done, else the refusal. It begins with the slowest of some graphs made by hand (and of CASE,
-// a record found before), changes one thing at a time, and keeps what is slower.
+// climb LETTER NUMBER SECONDS SEED OUT [CASE...]: looks for a graph on which a call takes long, and writes its record to OUT.
+// NUMBER is what the call must answer: 0 where it is done, else the refusal. It begins with the slowest of some graphs made by hand and of the CASES,
+// records found before, changes one thing at a time, and keeps what is slower.
 #[path = "../calls/calls.rs"]
 #[allow(dead_code)]
 mod calls;
 #[path = "../../tests/encode.rs"]
 #[allow(dead_code)]
 mod encode;
-use calls::{Case, Copy, number, place};
+use calls::{Case, Copy, number, place, spent};
 use encode::{Edge, plain};
-use std::time::{Duration, Instant};
+use std::time::Duration;
 
 const QUICK: Duration = Duration::from_millis(1);
 const SURE: Duration = Duration::from_millis(15);
@@ -170,9 +170,9 @@ fn main() {
     let seconds = Duration::from_secs_f64(words[2].parse().expect("seconds"));
     let mut d = Dice(words[3].parse::<u64>().expect("a seed").wrapping_mul(0x9e37_79b9_7f4a_7c15).max(1));
     let mut copy = Copy::new();
-    let stored = words.get(5).and_then(|name| std::fs::read(name).ok()).and_then(|r| Case::of(&r));
+    let case_in = |name: &String| std::fs::read(name).ok().and_then(|r| Case::of(&r));
     let mut plans = by_hand();
-    plans.extend(stored.as_ref().and_then(plan_of));
+    plans.extend(words[5..].iter().filter_map(case_in).filter_map(|c| plan_of(&c)));
     let (mut best, mut kept, mut found) = (0.0, None, None);
     for plan in &plans {
         // a few tries each at the answer that is wanted
@@ -194,9 +194,9 @@ fn main() {
             }
         }
     }
-    let began = Instant::now();
+    let began = spent();
     let mut tried = 0;
-    while let (Some(plan), true) = (&found, began.elapsed() < seconds) {
+    while let (Some(plan), true) = (&found, spent() - began < seconds) {
         let mut other = plan.clone();
         for _ in 0..1 + d.roll(3) * d.roll(2) {
             other.change(&mut d, letter);
@@ -215,7 +215,8 @@ fn main() {
         }
     }
     // what was stored stays where nothing slower was found
-    if let Some(old) = stored.filter(|old| number(old.make(&mut copy)) == wanted) {
+    let stored = if words.len() > 5 { case_in(&words[4]) } else { None };
+    if let Some(old) = stored.filter(|old| old.letter == letter && number(old.make(&mut copy)) == wanted) {
         let time = old.time(&mut copy, SURE);
         if time >= best {
             (best, kept) = (time, Some(old));
