@@ -14,7 +14,7 @@ mod model;
 #[path = "../differential/words.rs"]
 mod words;
 
-use calls::{record, run, start};
+use calls::{call, run, start};
 use inputs::Dice;
 use model::look;
 use std::fs;
@@ -29,8 +29,9 @@ struct Book {
 
 impl Book {
     fn make(&mut self, letter: u8, f: &[u8], list: &[u16], m: &[u8]) {
-        self.records.extend(record(letter, f, list, m));
-        self.lines += &words::word(letter, f, list, m);
+        let made = call(letter, f, list, m);
+        self.records.extend(&made.record);
+        self.lines += &words::word(&made.reply);
         self.lines.push('\n');
     }
 

@@ -16,19 +16,14 @@ use model::look;
 use std::io::Write;
 use std::process::{Command, Stdio};
 
-// A call, and the line that the program in C must print for it (nothing where there is no such program).
-fn random_call(d: &mut Dice, most: usize, with_c: bool) -> (Call, String) {
-    let both = |letter, f: &[u8], list: &[u16], m: &[u8]| {
-        let line = if with_c { words::word(letter, f, list, m) } else { String::new() };
-        (call(letter, f, list, m), line)
-    };
+fn random_call(d: &mut Dice, most: usize) -> Call {
     let letter = b"LSTRWBPTRW"[d.roll(10)];
     if d.one_in(3) {
         let f = inputs::damaged(d, most);
         let (long, short) = (d.roll(40), d.roll(5));
         let m: Vec<u8> = (0..long).map(|_| d.roll(3) as u8).collect();
         let list: Vec<u16> = (0..short).map(|_| d.roll(200) as u16).collect();
-        return both(letter, &f, &list, &m);
+        return call(letter, &f, &list, &m);
     }
     let (f, g) = inputs::accepted(d, most);
     let m = match letter {
@@ -40,7 +35,7 @@ fn random_call(d: &mut Dice, most: usize, with_c: bool) -> (Call, String) {
         b'B' => vec![d.roll(65536) as u16; g.transitions() + d.roll(4) - d.roll(2)],
         _ => inputs::list(d, &g, &m),
     };
-    both(letter, &f, &list, &m)
+    call(letter, &f, &list, &m)
 }
 
 // What a command prints for an input.
@@ -75,22 +70,23 @@ fn main() {
     for round in 0..rounds {
         let most = [3, 4, 6, 12, 40][round % 5];
         let at = format!("seed {seed} round {round}");
-        let mut batch: Vec<(Call, String)> = Vec::new();
+        let mut batch: Vec<Call> = Vec::new();
         let mut size = 0;
         loop {
-            let c = random_call(&mut d, most, with_c);
-            if size + c.0.record.len() > 60_000 || batch.len() == 60 {
+            let c = random_call(&mut d, most);
+            if size + c.record.len() > 60_000 || batch.len() == 60 {
                 break;
             }
-            size += c.0.record.len();
-            seen[c.0.refusal as usize] += 1;
+            size += c.record.len();
+            seen[c.refusal as usize] += 1;
             batch.push(c);
         }
-        let records: Vec<&[u8]> = batch.iter().map(|c| &c.0.record[..]).collect();
-        let expected: Vec<&str> = batch.iter().map(|c| &c.0.expected[..]).collect();
+        let records: Vec<&[u8]> = batch.iter().map(|c| &c.record[..]).collect();
+        let expected: Vec<&str> = batch.iter().map(|c| &c.expected[..]).collect();
         agree(&through(&program("calls_main"), &records.concat()), &expected, &records, &at);
         if with_c {
-            let expected: Vec<&str> = batch.iter().map(|c| &c.1[..]).collect();
+            let lines: Vec<String> = batch.iter().map(|c| words::word(&c.reply)).collect();
+            let expected: Vec<&str> = lines.iter().map(|l| &l[..]).collect();
             agree(&through(&[in_c.clone(), "calls".to_string()], &records.concat()), &expected, &records, &format!("{at} in C"));
         }
         calls += batch.len();
