@@ -1,7 +1,7 @@
 """Compiles crates for the processor of this machine at -O3, for timing. It proves nothing, and so takes seconds.
 
 The toolchain compiles for x86-64 only. Its compiler hands LLVM bitcode to its clang; a script that stands in for that clang keeps a copy, and the
-same clang compiles the copy for this processor. On x86-64 the words of the compilation are the toolchain's own."""
+same clang compiles the copy for this processor, with the words that the toolchain itself uses."""
 import os
 import platform
 import shutil
@@ -61,8 +61,9 @@ def bitcode(root, name, room, *words):
 
 
 def compiled(code, out):
-    words = ["--target=%s-unknown-linux-gnu" % ARCH, "-ffunction-sections", "-fdata-sections", "-Wno-override-module", "-c", "-x", "ir", code, "-o", out, "-fPIC", "-O3"]
-    done = subprocess.run([CLANG] + words, capture_output=True, text=True)
+    words = ["-ffunction-sections", "-fdata-sections", "-mllvm", "-trap-unreachable", "-mllvm", "-no-trap-after-noreturn", "-fPIC", "-O3"]
+    ends = ["--target=%s-unknown-linux-gnu" % ARCH, "-Wno-override-module", "-c", "-x", "ir", code, "-o", out]
+    done = subprocess.run([CLANG] + words + ends, capture_output=True, text=True)
     if done.returncode != 0:
         raise SystemExit("bench: the bitcode is not compiled:\n" + done.stderr[-2000:])
 
