@@ -2,8 +2,11 @@
  *
  * Every call takes any bytes and any numbers: there is nothing to test before it. A refusal writes nothing, but for a run
  * stopped by 12 or 13, which keeps its firings, and a report refused by 1 to 9, which writes its one line. What is lent is
- * held only for the call's duration. The caller owes what C cannot say: a pointer is never null, even where its length is
- * 0, it reaches as many entries as are named, and nothing that a call may write overlaps anything else lent to it.
+ * held only for the call's duration. The caller owes what C cannot say: a pointer reaches as many entries as are named, and
+ * nothing that a call may write overlaps anything else lent to it. Where a length is 0 its pointer may be NULL, as an empty
+ * vector of C++ has it; the arrays of a fixed length (look's five, the five values of bounds) are never NULL.
+ *
+ * The archive allocates nothing, keeps nothing between calls, and needs two functions of the C library: memcpy and memset.
  *
  * Each call answers one word:
  *   bits  0 to  7   the refusal's number, 0 where the call is done
@@ -29,6 +32,25 @@ enum {
     AMG_PLACES = 376,      /* the most places, 3N+2E: room for any marking */
     AMG_LENGTH = 2048,     /* the longest file */
     AMG_REPORT = 4096      /* room for any report */
+};
+
+/* The refusals' numbers, and what a refusal's place counts. amg_refusal.h has each as a sentence. */
+enum {
+    AMG_DONE = 0,
+    AMG_REFUSED_LENGTH = 1,      /* the file's length; the place is 0 */
+    AMG_REFUSED_TRAILER = 2,     /* layout byte, zero byte or AMG1; 0 */
+    AMG_REFUSED_COUNTS = 3,      /* N or E; 0 */
+    AMG_REFUSED_TABLES = 4,      /* distance back, or where the tables stand; 0 */
+    AMG_REFUSED_TIME = 5,        /* a time; the operation, from 1 */
+    AMG_REFUSED_EDGE = 6,        /* a byte of an edge; the edge, from 0 */
+    AMG_REFUSED_LOOSE = 7,       /* an end without an edge; the node */
+    AMG_REFUSED_APART = 8,       /* not joined to the source; the node */
+    AMG_REFUSED_DEAD = 9,        /* a circuit without a token; the transition */
+    AMG_REFUSED_MARKING = 10,    /* the marking's length or a byte of it; 0 */
+    AMG_REFUSED_UNREACHED = 11,  /* a marking that no firings reach; 0 */
+    AMG_REFUSED_TRANSITION = 12, /* the transition's number; 0 */
+    AMG_REFUSED_DISABLED = 13,   /* not enabled; the empty place */
+    AMG_REFUSED_ROOM = 14        /* the circuit or report buffer; 0 */
 };
 
 static inline unsigned amg_number(uint64_t word) { return (unsigned)(word & 0xff); }

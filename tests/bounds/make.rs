@@ -1,45 +1,18 @@
 // Writes the files that bounds_main reads (its stdin) and the lines it must print (its stdout). The lines come from the model of
 // tests/differential, which tells document 01 by other means than the proved code: circuits are enumerated where there are few enough.
+#[path = "../encode.rs"]
+#[allow(dead_code)]
+mod encode;
 #[path = "../differential/model.rs"]
 #[allow(dead_code)]
 mod model;
+use encode::{Edge, parse, plain};
 use model::{Graph, look};
 use std::fs;
 
 const CAP: usize = 200_000;
 
-type Edges = Vec<(usize, usize, u8)>;
-
-// The bytes of a file: operation table, edge table, trailer.
-fn file(times: &[u64], edges: &Edges) -> Vec<u8> {
-    let mut f: Vec<u8> = Vec::new();
-    for (i, t) in times.iter().enumerate() {
-        f.extend((*t as u32).to_le_bytes());
-        f.extend(format!("{:<8}", i + 1).bytes());
-    }
-    let edges_at = f.len();
-    f.extend(edges.iter().flat_map(|(a, b, m)| [*a as u8, *b as u8, *m, 0]));
-    let back = f.len();
-    for x in [0, times.len(), edges_at, edges.len(), back] {
-        f.extend((x as u16).to_le_bytes());
-    }
-    f.extend([1, 0]);
-    f.extend(b"AMG1");
-    f
-}
-
-fn parse(line: &str) -> Vec<u8> {
-    let (times, edges) = line.split_once(':').expect("a name").1.split_once(';').expect("times");
-    let times: Vec<u64> = times.split(',').map(|t| t.trim().parse().expect("a time")).collect();
-    let edges: Edges = edges
-        .split(',')
-        .map(|e| {
-            let (a, b) = e.trim().trim_end_matches('*').split_once('-').expect("an edge");
-            (a.parse().expect("from"), b.parse().expect("to"), e.ends_with('*') as u8)
-        })
-        .collect();
-    file(&times, &edges)
-}
+type Edges = Vec<Edge>;
 
 // A chain of n operations.
 fn chain(n: usize) -> Edges {
@@ -72,19 +45,19 @@ fn layers(deep: usize, wide: usize, most: usize) -> (usize, Edges) {
 fn files() -> Vec<Vec<u8>> {
     let text = |path: &str| fs::read_to_string(path).expect("the graphs");
     let graphs = text("samples/graphs.txt") + &text("tests/bounds/graphs.txt");
-    let mut all: Vec<Vec<u8>> = graphs.lines().filter(|l| !l.starts_with('#')).map(parse).collect();
+    let mut all: Vec<Vec<u8>> = graphs.lines().filter(|l| !l.starts_with('#')).map(parse).map(|(times, edges)| plain(&times, &edges)).collect();
     let rising = |n: usize| (1..=n as u64).map(|t| 1 + 37 * t % 101).collect::<Vec<u64>>();
     // long rings: one mark, one in three, all but one, all
     let marks: [fn(usize) -> bool; 4] = [|k| k == 40, |k| k % 3 == 1 || k == 40, |k| k != 7, |_| true];
     for marked in marks {
-        all.push(file(&rising(40), &ring(40, marked)));
-        all.push(file(&[1_000_000; 40], &ring(40, marked)));
+        all.push(plain(&rising(40), &ring(40, marked)));
+        all.push(plain(&[1_000_000; 40], &ring(40, marked)));
     }
     // many equal circuits
     for (deep, wide) in [(2, 2), (3, 3), (5, 4), (10, 3)] {
         let (n, e) = layers(deep, wide, 128);
-        all.push(file(&vec![1; n], &e));
-        all.push(file(&rising(n), &e));
+        all.push(plain(&vec![1; n], &e));
+        all.push(plain(&rising(n), &e));
     }
     // the largest: 40 operations and 128 edges, with the longest times
     let mut e = chain(40);
@@ -94,8 +67,8 @@ fn files() -> Vec<Vec<u8>> {
     }
     for times in [vec![1_000_000; 40], rising(40)] {
         let doubled: Edges = (0..128).map(|k| chain(40)[k % 41]).collect();
-        all.push(file(&times, &doubled));
-        all.push(file(&times, &e));
+        all.push(plain(&times, &doubled));
+        all.push(plain(&times, &e));
     }
     // bytes that are no graph
     all.push(Vec::new());

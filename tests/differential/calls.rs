@@ -3,11 +3,15 @@ use crate::model::{self, Graph, Refusal, look};
 
 pub const CAP: usize = 20_000;
 
+// What stands in lent memory before a call, where the record does not say.
+pub const FILL: u8 = 170;
+
 // One call: its letter, file, list and marking, and the line that the model expects.
 pub struct Call {
     pub record: Vec<u8>,
     pub expected: String,
     pub refusal: u8,
+    pub reply: Reply,
 }
 
 fn numbers<T: std::fmt::Display>(xs: &[T]) -> String {
@@ -95,57 +99,70 @@ fn bounds(f: &[u8], out: &mut [u16]) -> Result<[u64; 6], Refusal> {
     Ok([a, b, tbio, tt, g.times.iter().sum(), ring.len() as u64])
 }
 
-// What a call's line begins with: its name, the refusal's number and place.
-fn head(name: &str, r: &Option<Refusal>) -> String {
-    let (n, x) = r.unwrap_or((0, 0));
-    format!("{name} {n} {x}")
+// What a call replies: the refusal, look's graph, the call's values, and all that was lent to be written (and a wait's marking) as it is afterwards.
+pub struct Reply {
+    pub name: &'static str,
+    pub refused: Option<Refusal>,
+    pub graph: Option<Graph>,
+    pub values: Vec<u64>,
+    pub memory: Vec<u64>,
 }
 
-pub fn call(letter: u8, f: &[u8], list: &[u16], m: &[u8]) -> Call {
+fn wide<T: Copy + Into<u64>>(xs: &[T]) -> Vec<u64> {
+    xs.iter().map(|x| (*x).into()).collect()
+}
+
+fn report(f: &[u8], room: usize) -> Reply {
+    let refused = if room < 4096 { Some((14, 0)) } else { look(f).err() };
+    let text = if room < 4096 { String::new() } else { model::report(f, CAP) };
+    let mut buffer = vec![FILL; room];
+    buffer[..text.len()].copy_from_slice(text.as_bytes());
+    Reply { name: "report", refused, graph: None, values: vec![text.len() as u64], memory: wide(&buffer) }
+}
+
+// The call of one record. Z is a report into a buffer of length 0, which only the program in C can be asked for.
+pub fn reply(letter: u8, f: &[u8], list: &[u16], m: &[u8]) -> Reply {
     let (mut after, mut entries) = (m.to_vec(), list.to_vec());
     let first = list.first().copied().unwrap_or(65535);
-    let (refused, expected) = match letter {
+    let (name, refused, values) = match letter {
         b'L' => {
             let r = look(f);
-            let mut line = head("look", &r.clone().err());
-            if let Ok(g) = &r {
-                line += &format!(" {} {}", g.n(), g.edges.len());
-                line += &numbers(&g.times);
-                line += &g.edges.iter().map(|(a, b, k)| format!(" {a} {b} {k}")).collect::<String>();
-            }
-            (r.err(), line + " memory")
+            return Reply { name: "look", refused: r.clone().err(), graph: r.ok(), values: Vec::new(), memory: Vec::new() };
         }
-        b'S' => {
-            let r = start(f, &mut after);
-            (r.err(), head("start", &r.err()) + " memory" + &numbers(&after))
-        }
-        b'T' => {
-            let r = step(f, &mut after, first);
-            (r.err(), head("step", &r.err()) + " memory" + &numbers(&after))
-        }
+        b'S' => ("start", start(f, &mut after).err(), Vec::new()),
+        b'T' => ("step", step(f, &mut after, first).err(), Vec::new()),
         b'R' => {
             let (r, fired) = run(f, &mut after, list);
-            (r.err(), head("run", &r.err()) + &format!(" {fired} memory") + &numbers(&after))
+            ("run", r.err(), vec![fired as u64])
         }
         b'W' => {
             let r = wait(f, m, first);
-            (r.err(), head("wait", &r.err()) + &format!(" {} memory", r.unwrap_or(0)) + &numbers(m))
+            ("wait", r.err(), vec![r.unwrap_or(0)])
         }
         b'B' => {
             let r = bounds(f, &mut entries);
-            (r.err(), head("bounds", &r.err()) + &numbers(&r.unwrap_or([0; 6])) + " memory" + &numbers(&entries))
+            ("bounds", r.err(), r.unwrap_or([0; 6]).to_vec())
         }
-        _ => {
-            let long = if m.is_empty() || m.len() > 4095 { 4096 } else { m.len() };
-            let mut buffer = vec![170u8; long];
-            let (r, text) = match look(f) {
-                _ if long < 4096 => (Some((14, 0)), String::new()),
-                Err(r) => (Some(r), model::report(f, CAP)),
-                Ok(_) => (None, model::report(f, CAP)),
-            };
-            buffer[..text.len()].copy_from_slice(text.as_bytes());
-            (r, head("report", &r) + &format!(" {} memory", text.len()) + &numbers(&buffer))
-        }
+        b'Z' => return report(f, 0),
+        _ => return report(f, if m.is_empty() || m.len() > 4095 { 4096 } else { m.len() }),
     };
-    Call { record: record(letter, f, list, m), expected, refusal: refused.map_or(0, |r| r.0) }
+    let memory = if letter == b'B' { wide(&entries) } else { wide(&after) };
+    Reply { name, refused, graph: None, values, memory }
+}
+
+// The line of `calls_main`.
+fn line(r: &Reply) -> String {
+    let (number, place) = r.refused.unwrap_or((0, 0));
+    let mut line = format!("{} {number} {place}", r.name);
+    if let Some(g) = &r.graph {
+        line += &format!(" {} {}", g.n(), g.edges.len());
+        line += &numbers(&g.times);
+        line += &g.edges.iter().map(|(a, b, k)| format!(" {a} {b} {k}")).collect::<String>();
+    }
+    line + &numbers(&r.values) + " memory" + &numbers(&r.memory)
+}
+
+pub fn call(letter: u8, f: &[u8], list: &[u16], m: &[u8]) -> Call {
+    let r = reply(letter, f, list, m);
+    Call { record: record(letter, f, list, m), expected: line(&r), refusal: r.refused.map_or(0, |r| r.0), reply: r }
 }

@@ -1,4 +1,5 @@
 // Random inputs: graphs of every size, files with damage, markings near and far from reached ones, lists of firings.
+use crate::encode::{self, Edge};
 use crate::model::{Graph, look};
 
 // A small generator of our own (xorshift), so that a seed means the same everywhere.
@@ -17,27 +18,11 @@ impl Dice {
     }
 }
 
-// The bytes of a file: tables in either order, labels at random.
-pub fn file(d: &mut Dice, times: &[u64], edges: &[(usize, usize, u8)]) -> Vec<u8> {
-    let ops: Vec<u8> = times
-        .iter()
-        .flat_map(|t| {
-            let mut r = (*t as u32).to_le_bytes().to_vec();
-            r.extend((0..8).map(|_| d.roll(256) as u8));
-            r
-        })
-        .collect();
-    let rows: Vec<u8> = edges.iter().flat_map(|(a, b, m)| [*a as u8, *b as u8, *m, 0]).collect();
-    let first = d.one_in(2);
-    let (ops_at, edges_at) = if first { (0, ops.len()) } else { (rows.len(), 0) };
-    let mut f = if first { [ops, rows].concat() } else { [rows, ops].concat() };
-    let back = f.len();
-    for x in [ops_at, times.len(), edges_at, edges.len(), back] {
-        f.extend((x as u16).to_le_bytes());
-    }
-    f.extend([1, 0]);
-    f.extend(b"AMG1");
-    f
+// The bytes of a file: labels at random, tables in either order.
+pub fn file(d: &mut Dice, times: &[u64], edges: &[Edge]) -> Vec<u8> {
+    let labels: Vec<[u8; 8]> = times.iter().map(|_| [(); 8].map(|_| d.roll(256) as u8)).collect();
+    let edges_first = !d.one_in(2);
+    encode::file(times, &labels, edges, edges_first)
 }
 
 fn time(d: &mut Dice) -> u64 {
@@ -50,12 +35,12 @@ fn time(d: &mut Dice) -> u64 {
 }
 
 // A graph in which every node is linked: a chain of forward edges from source to sink, and further edges, some marked.
-pub fn graph(d: &mut Dice, most: usize) -> (Vec<u64>, Vec<(usize, usize, u8)>) {
+pub fn graph(d: &mut Dice, most: usize) -> (Vec<u64>, Vec<Edge>) {
     let n = 1 + d.roll(most);
     let same = d.one_in(3);
     let one = time(d);
     let times: Vec<u64> = (0..n).map(|_| if same { one } else { time(d) }).collect();
-    let mut edges: Vec<(usize, usize, u8)> = Vec::new();
+    let mut edges: Vec<Edge> = Vec::new();
     for v in 1..=n {
         edges.push((d.roll(v), v, 0));
     }

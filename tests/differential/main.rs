@@ -1,8 +1,14 @@
-// The differential test: random inputs go through the proved programs `calls_main` and `report_main` and through the model; every line must agree.
-// Arguments: how many rounds, the seed, then the command that runs a program (its words, the program's path last replaced).
+// The differential test: random inputs go through the proved programs `calls_main` and `report_main`, through the program in C over the
+// archive, and through the model; every line must agree.
+// Arguments: how many rounds, the seed, the command that runs the program in C (`-` where there is none), the folder of the proved programs, and
+// the words of the command that runs one of them.
 mod calls;
+#[path = "../encode.rs"]
+#[allow(dead_code)]
+mod encode;
 mod inputs;
 mod model;
+mod words;
 
 use calls::{CAP, Call, call};
 use inputs::Dice;
@@ -32,32 +38,38 @@ fn random_call(d: &mut Dice, most: usize) -> Call {
     call(letter, &f, &list, &m)
 }
 
-fn through(command: &[String], program: &str, input: &[u8]) -> String {
-    let mut child = Command::new(&command[0])
-        .args(&command[1..])
-        .arg(program)
-        .stdin(Stdio::piped())
-        .stdout(Stdio::piped())
-        .spawn()
-        .expect("the program starts");
+// What a command prints for an input.
+fn through(command: &[String], input: &[u8]) -> String {
+    let mut child = Command::new(&command[0]).args(&command[1..]).stdin(Stdio::piped()).stdout(Stdio::piped()).spawn().expect("the program starts");
     let mut stdin = child.stdin.take().expect("standard input");
     let input = input.to_vec();
     let feed = std::thread::spawn(move || stdin.write_all(&input));
     let out = child.wait_with_output().expect("the program ends");
     feed.join().expect("the input was taken").ok();
-    assert!(out.status.success(), "{program} ended with {}", out.status);
+    assert!(out.status.success(), "{command:?} ended with {}", out.status);
     String::from_utf8(out.stdout).expect("text")
+}
+
+// Each line that is printed must be the one that the model expects.
+fn agree(printed: &str, expected: &[&str], records: &[&[u8]], at: &str) {
+    for (k, (line, right)) in printed.lines().chain(std::iter::repeat("nothing")).zip(expected).enumerate() {
+        assert!(line == *right, "{at} call {k}\nexpected {right}\nprinted  {line}\nrecord {:?}", records[k]);
+    }
+    assert_eq!(printed.lines().count(), expected.len(), "{at}: a line for each record");
 }
 
 fn main() {
     let words: Vec<String> = std::env::args().skip(1).collect();
     let (rounds, seed): (usize, u64) = (words[0].parse().expect("rounds"), words[1].parse().expect("seed"));
-    let (folder, command) = (&words[2], &words[3..]);
+    let (in_c, folder, command) = (&words[2], &words[3], &words[4..]);
+    let program = |name: &str| [command, &[format!("{folder}/{name}")]].concat();
+    let with_c = in_c != "-";
     let mut d = Dice(seed.wrapping_mul(2654435769).max(1));
     let mut seen = [0usize; 15];
     let mut calls = 0;
     for round in 0..rounds {
         let most = [3, 4, 6, 12, 40][round % 5];
+        let at = format!("seed {seed} round {round}");
         let mut batch: Vec<Call> = Vec::new();
         let mut size = 0;
         loop {
@@ -69,22 +81,24 @@ fn main() {
             seen[c.refusal as usize] += 1;
             batch.push(c);
         }
-        let input: Vec<u8> = batch.iter().flat_map(|c| c.record.clone()).collect();
-        let out = through(command, &format!("{folder}/calls_main"), &input);
-        for (k, (c, line)) in batch.iter().zip(out.lines().chain(std::iter::repeat("nothing"))).enumerate() {
-            assert!(c.expected == line, "seed {seed} round {round} call {k}\nexpected {}\nprinted  {line}\nrecord {:?}", c.expected, c.record);
+        let records: Vec<&[u8]> = batch.iter().map(|c| &c.record[..]).collect();
+        let expected: Vec<&str> = batch.iter().map(|c| &c.expected[..]).collect();
+        agree(&through(&program("calls_main"), &records.concat()), &expected, &records, &at);
+        if with_c {
+            let lines: Vec<String> = batch.iter().map(|c| words::word(&c.reply)).collect();
+            let expected: Vec<&str> = lines.iter().map(|l| &l[..]).collect();
+            agree(&through(&[in_c.clone(), "calls".to_string()], &records.concat()), &expected, &records, &format!("{at} in C"));
         }
-        assert_eq!(out.lines().count(), batch.len(), "seed {seed} round {round}: a line for each record");
         calls += batch.len();
         let f = if d.one_in(2) { inputs::damaged(&mut d, most) } else { inputs::accepted(&mut d, most).0 };
-        let text = through(command, &format!("{folder}/report_main"), &f);
-        assert!(text == model::report(&f, CAP), "seed {seed} round {round}: report of {f:?}\n{text}");
+        let text = through(&program("report_main"), &f);
+        assert!(text == model::report(&f, CAP), "{at}: report of {f:?}\n{text}");
         // the label rule: other labels, the same reply
         if let Ok(g) = look(&f) {
             let again = inputs::file(&mut d, &g.times, &g.edges);
-            assert!(text == through(command, &format!("{folder}/report_main"), &again), "seed {seed} round {round}: labels mattered");
+            assert!(text == through(&program("report_main"), &again), "{at}: labels mattered");
         }
     }
-    println!("seed {seed}: {calls} calls and {rounds} reports agree");
+    println!("seed {seed}: {calls} calls and {rounds} reports agree{}", if with_c { ", and the calls from C" } else { "" });
     println!("done {}; refused by 1 to 14: {:?}", seen[0], &seen[1..]);
 }

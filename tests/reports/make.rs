@@ -1,11 +1,15 @@
 // Writes the files that reports_main reads (its stdin) and the reports it must print (its stdout), and those of P3 for report_main.
 // The reports come from the model of tests/differential, which tells document 01 by other means than the proved code.
+#[path = "../encode.rs"]
+#[allow(dead_code)]
+mod encode;
 #[path = "../differential/inputs.rs"]
 #[allow(dead_code)]
 mod inputs;
 #[path = "../differential/model.rs"]
 #[allow(dead_code)]
 mod model;
+use encode::Edge;
 use inputs::{Dice, accepted, damaged, file};
 use std::fs;
 
@@ -18,8 +22,8 @@ fn sample(name: &str) -> Vec<u8> {
 }
 
 // A chain of operations with further edges beside it, forward ones without a mark and the others with one.
-fn beside(n: usize, e: usize) -> Vec<(usize, usize, u8)> {
-    let mut edges: Vec<(usize, usize, u8)> = (0..=n).map(|k| (k, k + 1, 0)).collect();
+fn beside(n: usize, e: usize) -> Vec<Edge> {
+    let mut edges: Vec<Edge> = (0..=n).map(|k| (k, k + 1, 0)).collect();
     edges.extend((0..e - n - 1).map(|k| {
         let (a, b) = (1 + 7 * k % n, 1 + 11 * k % n);
         (a, b, (b <= a) as u8)

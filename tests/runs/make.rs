@@ -1,11 +1,16 @@
 // Writes what `run_main` reads (its stdin) and what it must print (its stdout): the calls below, as the model of tests/differential answers them.
 // Arguments: the folder of the samples, and the program's.
 #[path = "../differential/calls.rs"]
+#[allow(dead_code)]
 mod calls;
+#[path = "../encode.rs"]
+#[allow(dead_code)]
+mod encode;
 #[path = "../differential/model.rs"]
 mod model;
 
 use calls::{Call, call, run, start, step};
+use encode::{Edge, file};
 use model::{Graph, look};
 
 // The calls so far.
@@ -45,13 +50,9 @@ fn packets(g: &Graph, k: usize) -> Vec<u16> {
 
 // A chain of 40 operations, with further edges beside its own, 128 in all.
 fn largest() -> Vec<u8> {
-    let mut f: Vec<u8> = (1..=40u32).flat_map(|i| [&(25_000 * i).to_le_bytes()[..], b"a  chain"].concat()).collect();
-    f.extend((0..128).flat_map(|k| [(k % 41) as u8, (k % 41) as u8 + 1, 0, 0]));
-    for x in [0, 40, 480, 128, 992u16] {
-        f.extend(x.to_le_bytes());
-    }
-    f.extend(b"\x01\x00AMG1");
-    f
+    let times: Vec<u64> = (1..=40).map(|i| 25_000 * i).collect();
+    let edges: Vec<Edge> = (0..128).map(|k| (k % 41, k % 41 + 1, 0)).collect();
+    file(&times, &[*b"a  chain"; 40], &edges, false)
 }
 
 fn main() {
