@@ -1,2 +1,4 @@
-pub mod Climb
+-- Words of the helpers beneath `first_dead`: what levels clear, what a ring shows, what distances close.
+pub mod Level
+pub mod Ring
 pub mod Closing

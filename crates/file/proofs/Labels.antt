@@ -140,8 +140,14 @@ labels-sym f g s = record { long = sym (s .long); same = λ p n. sym (s .same p 
 -- Every row of look is the same: rows 1 to 4 read the length and the trailer alone, and the graph is read where they are kept.
 pub labels-rows : (f g : List ℕ) → SameButLabels f g → SameRows (lookRows f) (lookRows g)
 labels-rows f g s =
-    let t = labels-sym f g s in
-    (asked-same (sized f g s) (sized g f t), λ k1.
-    (asked-same (signed f g s) (signed g f t), λ k2.
-    (asked-same (counted f g s) (counted g f t), λ k3.
-    (asked-same (laid f g s) (laid g f t), λ k4. agree-rows (planOf f) (planOf g) (plans-agree f g s (k4 0 refl))))))
+    let t = labels-sym f g s in (
+      asked-same (sized f g s) (sized g f t),
+      λ k1. (
+        asked-same (signed f g s) (signed g f t),
+        λ k2. (
+          asked-same (counted f g s) (counted g f t),
+          λ k3.
+              (asked-same (laid f g s) (laid g f t), λ k4. agree-rows (planOf f) (planOf g) (plans-agree f g s (k4 0 refl))),
+        ),
+      ),
+    )

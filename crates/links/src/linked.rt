@@ -1,7 +1,7 @@
 // Row 7: the lowest node that lacks an edge out or an edge in. One pass over the edges, then one over the nodes.
 use net::EDGES;
-use refusal::Found;
 use net::NODES;
+use refusal::Found;
 ghost use mathlib.Core.Path.{_≡_};
 ghost use Prim.Native.Nat.{_≤_};
 ghost use Rattle.net.specs.Good.{Wired};

@@ -46,13 +46,13 @@ agree-rows p q a =
     let w = agree-wires a in
     let v = agree-wires b in
     let five : SameAsk (row5 p) (row5 q) =
-        record { number = refl; to = operation-same a; back = operation-same b; up = timely-same a; down = λ i h. timely-same b i (operation-same a i h) } in
+    record { number = refl; to = operation-same a; back = operation-same b; up = timely-same a; down = λ i h. timely-same b i (operation-same a i h) } in
     let six : SameAsk (row6 p) (row6 q) =
-        record { number = refl; to = edge-same (w .ends); back = edge-same (v .ends); up = allowed-same a; down = λ e h. allowed-same b e (edge-same (w .ends) e h) } in
+    record { number = refl; to = edge-same (w .ends); back = edge-same (v .ends); up = allowed-same a; down = λ e h. allowed-same b e (edge-same (w .ends) e h) } in
     let seven : SameAsk (row7 p) (row7 q) =
-        record { number = refl; to = node-same w; back = node-same v; up = λ n h. linked-same w n; down = λ n h. linked-same v n } in
+    record { number = refl; to = node-same w; back = node-same v; up = λ n h. linked-same w n; down = λ n h. linked-same v n } in
     let eight : SameAsk (row8 p) (row8 q) =
-        record { number = refl; to = node-same w; back = node-same v; up = λ n h. joined-same (w .ends) n; down = λ n h. joined-same (v .ends) n } in
+    record { number = refl; to = node-same w; back = node-same v; up = λ n h. joined-same (w .ends) n; down = λ n h. joined-same (v .ends) n } in
     let nine : SameAsk (row9 p) (row9 q) =
-        record { number = refl; to = transition-same w; back = transition-same v; up = λ t h. alive-same w (a .mark) t; down = λ t h. alive-same v (b .mark) t } in
+    record { number = refl; to = transition-same w; back = transition-same v; up = λ t h. alive-same w (a .mark) t; down = λ t h. alive-same v (b .mark) t } in
     (five, λ k5. (six, λ k6. (seven, λ k7. (eight, λ k8. (nine, λ k9. tt)))))

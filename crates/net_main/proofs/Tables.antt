@@ -6,7 +6,8 @@ use native.Mathlib.Decide.{ℕ-discrete}
 use native.Mathlib.Omega.{arith}
 use lib.ListN.{getD-replicate, length, length-set, replicate, set}
 use lib.Seq.{getD-set-other, getD-set-same}
-use Rattle.net.specs.Valid.{Lent, Single}
+use Rattle.net.specs.Good.{Marked}
+use Rattle.net.specs.helpers.Lent.{Lent}
 use Rattle.net_main.specs.Columns.{Column, Held}
 
 pub column-fresh : {least most : ℕ} → least ≤ most → Column least most (replicate 128 least)
@@ -21,12 +22,16 @@ column-set {least} {most} {v} {xs} i l c h = record {
   ];
 }
 
-pub columns-single : {n e : ℕ} {mark : List ℕ} → n ≤ 40 → e ≤ 5 → Column 0 1 mark → Single n e mark
-columns-single h k c = record { operations = h; edges = omega arith; marks = λ i l. c .each i (omega arith) .high }
+pub columns-marked : {n e : ℕ} {mark : List ℕ} → n ≤ 40 → e ≤ 5 → Column 0 1 mark → Marked n e mark
+columns-marked h k c = record { operations = h; edges = omega arith; single = λ i l. c .each i (omega arith) .high }
 
-pub columns-lent : {n e : ℕ} {from to marking : List ℕ} → n ≤ 40 → e ≤ 5 → Column 0 n from → Column 1 (n + 1) to → 3 * n + 2 * e ≤ length marking → Lent n e from to marking
-columns-lent h k f t l = record {
-  valid = record {
+pub columns-lent :
+    {n e : ℕ} {from to marking : List ℕ} → 1 ≤ n → n ≤ 40 → e ≤ 5 →
+    Column 0 n from → Column 1 (n + 1) to → 3 * n + 2 * e ≤ length marking →
+    Lent n e from to marking
+columns-lent o h k f t l = record {
+  wired = record {
+    some = o;
     operations = h;
     edges = omega arith;
     leaves = λ i j. f .each i (omega arith) .high;

@@ -1,13 +1,13 @@
 // Prints the dead transition, if there is one, and the distances from every transition, for document 01's graphs P1 to P6 at the start.
 use dead::first_dead;
 use net::EDGES;
-use net::Found;
 use net::PLACES;
 use net::TRANSITIONS;
 use net::distances::distances;
 use net::start::start_marking;
+use refusal::Found;
 ghost use Prim.Native.Nat.{_+_, _*_, _<_, _≤_};
-ghost use Rattle.net.specs.Valid.{Lent};
+ghost use Rattle.net.specs.helpers.Lent.{Lent};
 ghost use Rattle.net_main.specs.Columns.{Column, Held};
 
 // x, held between least and most.
@@ -108,7 +108,7 @@ fn show_name(number: u64) {
 
 // One graph at the start: its number, its operations, and its edges as from, to and mark.
 fn show(number: u64, n: u8, e: usize, edges: &[u8; 15])
-    requires { ⌜ (n ≤ 40) × (e ≤ 5) ⌝ }
+    requires { ⌜ (1 ≤ n) × (n ≤ 40) × (e ≤ 5) ⌝ }
 {
     show_name(number);
     let from = column(edges, e, 0, 0, n);

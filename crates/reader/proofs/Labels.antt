@@ -60,8 +60,14 @@ look-order-blind f g a r s p q = look-determined g r s (carries f g rows (λ h. 
     rows : SameRows (lookRows f) (lookRows g)
     rows =
         let x = a .left in
-        let y = a .right in
-        (asked-same (λ h. y .sized) (λ h. x .sized), λ k1.
-        (asked-same (λ h. y .signed) (λ h. x .signed), λ k2.
-        (asked-same (λ h. y .counted) (λ h. x .counted), λ k3.
-        (asked-same (λ h. y .laid) (λ h. x .laid), λ k4. agree-rows (planOf f) (planOf g) (a .plans)))))
+        let y = a .right in (
+          asked-same (λ h. y .sized) (λ h. x .sized),
+          λ k1. (
+            asked-same (λ h. y .signed) (λ h. x .signed),
+            λ k2. (
+              asked-same (λ h. y .counted) (λ h. x .counted),
+              λ k3.
+                  (asked-same (λ h. y .laid) (λ h. x .laid), λ k4. agree-rows (planOf f) (planOf g) (a .plans)),
+            ),
+          ),
+        )

@@ -50,9 +50,10 @@ enum-told c = search needs
 judge-links-requires : tie.Need-judge-links-requires
 judge-links-requires c κs =
     let s = at-none c in
-    let a = s .args in
-    (allowed-wired [] (now (a .from)) (now (a .to)) (now (a .mark)) (now (a .buffers)) (s .pre .operations) (s .pre .edges) (kept c),
-    allowed-marked [] (now (a .from)) (now (a .to)) (now (a .mark)) (now (a .buffers)) (s .pre .operations) (s .pre .edges) (kept c))
+    let a = s .args in (
+      allowed-wired [] (now (a .from)) (now (a .to)) (now (a .mark)) (now (a .buffers)) (s .pre .operations) (s .pre .edges) (kept c),
+      allowed-marked [] (now (a .from)) (now (a .to)) (now (a .mark)) (now (a .buffers)) (s .pre .operations) (s .pre .edges) (kept c),
+    )
 
 returns-2 : tie.Need-returns-2
 returns-2 c = judged-next (kept (c .before)) (c .judge-links .ensures)

@@ -58,6 +58,11 @@ pub record Passed (e : ℕ) (from to : List ℕ) (k : ℕ) (old new : List ℕ) 
   pub grows : now ≡ true → missing new < missing old
   pub still : now ≡ false → (new ≡ old) × ((j : ℕ) → j < k → Even from to new j)
 
+-- What edges taken in any order do to the marks.
+pub record Led (e : ℕ) (from to old new : List ℕ) : Type 0 where
+  pub reached : Reached e from to new
+  pub fewer : missing new ≤ missing old
+
 -- Exactly the nodes that are joined to the source are marked 1.
 pub record Marks (e : ℕ) (from to seen : List ℕ) : Type 0 where
   pub sound : (n : ℕ) → at seen n ≡ 1 → Joined (wires 0 e from to) n

@@ -1,7 +1,7 @@
--- The columns are within the limits, so the rows are valid: `columns-single`, `columns-lent`.
+-- The columns are within the limits, so the rows are those of a wired graph: `columns-marked`, `columns-lent`.
 use native.Mathlib.Omega.{arith}
 use borrow.Author.Needs.{needs}
-use Rattle.net_main.proofs.Tables.{columns-lent, columns-single}
+use Rattle.net_main.proofs.Tables.{columns-lent, columns-marked}
 use Rattle.net_main.proofs.show.Statement.{statement}
 use Rattle.net_main.proofs.show.Tie as tie
 
@@ -25,8 +25,9 @@ slice-aggregate-start-marking c = search needs
 
 start-marking-requires : tie.Need-start-marking-requires
 start-marking-requires c κs =
-    let s = c .before .before .before .before .before .before in
-    (columns-single (s .pre .0) (s .pre .1) (c .before .before .column3 .ensures), omega arith)
+    let m = c .before .before in
+    let s = m .before .before .before .before in
+    (columns-marked (s .pre .1) (s .pre .2) (m .column3 .ensures), omega arith)
 
 slice-aggregate-show-rows : tie.Need-slice-aggregate-show-rows
 slice-aggregate-show-rows c = search needs
@@ -37,7 +38,7 @@ show-rows-requires c κs =
     let b = m .before .before .before .before in
     let a = b .before in
     let s = a .before .before in
-    columns-lent (s .pre .0) (s .pre .1) (a .column .ensures) (b .column2 .ensures) (omega (arith, m .start-marking .ensures .long))
+    columns-lent (s .pre .0) (s .pre .1) (s .pre .2) (a .column .ensures) (b .column2 .ensures) (omega (arith, m .start-marking .ensures .long))
 
 returns : tie.Need-returns
 returns c = search needs

@@ -1,4 +1,5 @@
 -- Each pass but the last marks a node, so the unmarked ones get fewer; after the last, every edge is even.
+use native.Mathlib.Omega.{arith}
 use borrow.Author.Needs.{needs}
 use Rattle.links.specs.helpers.Ticks.{Reached, missing}
 use Rattle.links.proofs.Reach.{marked-all, reached-start}
@@ -6,10 +7,10 @@ use Rattle.links.proofs.joined.reach.Statement.{statement}
 use Rattle.links.proofs.joined.reach.Tie as tie
 
 abbrev Inv-loop : tie.InvT-loop
-Inv-loop e from to seen₀ seen = Reached e from to seen
+Inv-loop e from to seen₀ passes₀ seen passes = Reached e from to seen
 
 abbrev μ-loop : tie.MeasureT-loop
-μ-loop e from to seen₀ seen = missing seen
+μ-loop e from to seen₀ passes₀ seen passes = missing seen
 
 array-write-seen : tie.Need-array-write-seen Inv-loop μ-loop
 array-write-seen c = search needs
@@ -20,11 +21,16 @@ loop-holds c = reached-start
 pass-requires : tie.Need-pass-requires Inv-loop μ-loop
 pass-requires c κs = (c .before .before .pre, c .before .loop .inv)
 
+hasten-requires : tie.Need-hasten-requires Inv-loop μ-loop
+hasten-requires c κs = (c .before .before .before .before .before .pre, c .before .before .pass .ensures .reached)
+
 loop-less : tie.Need-loop-less Inv-loop μ-loop
-loop-less c = c .before .pass .ensures .grows (c .if1 .taken)
+loop-less c =
+    let p = c .before .before .before in
+    omega (arith, p .pass .ensures .grows (c .before .before .if1 .taken), c .hasten .ensures .fewer)
 
 loop-again : tie.Need-loop-again Inv-loop μ-loop
-loop-again c = c .before .pass .ensures .reached
+loop-again c = c .hasten .ensures .reached
 
 returns : tie.Need-returns Inv-loop μ-loop
 returns c = marked-all (c .if1 .left) (c .before .pass .ensures)
@@ -38,6 +44,7 @@ reach-spec =
     array-write-seen
     loop-holds
     pass-requires
+    hasten-requires
     loop-less
     loop-again
     returns)
