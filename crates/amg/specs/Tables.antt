@@ -1,9 +1,9 @@
 -- What look and bounds tell beyond the word: in arrays that the caller lends.
 use mathlib.Core.List.{List, [], _∷_}
 use Prim.Native.Nat.{ℕ}
+use Rattle.refusal.specs.declared.Verdict.{Verdict}
+use Rattle.refusal.specs.declared.Verdict.the-variants.{Accepted, Refused as LookRefused}
 use Rattle.reader.specs.declared.graph.Graph.{Graph}
-use Rattle.reader.specs.declared.graph.Verdict.{Verdict}
-use Rattle.reader.specs.declared.graph.Verdict.the-variants.{Accepted, Refused as LookRefused}
 use Rattle.bounds.specs.declared.reply.Bounds.{Bounds}
 use Rattle.bounds.specs.declared.reply.Bounds.the-variants.{Bounded, Refused as BoundsRefused}
 
@@ -22,9 +22,9 @@ tables counts times from to mark = record { counts = counts; times = times; from
 -- The arrays after look: the graph's N and E, times and rows, unused entries 0; a refusal writes nothing.
 abbrev pub shownIn : Verdict → Graph → Tables → Tables
 shownIn Accepted g before = tables (g .operations ∷ g .edges ∷ []) (g .times) (g .from) (g .to) (g .mark)
-shownIn (LookRefused number place) g before = before
+shownIn (LookRefused r) g before = before
 
 -- The five values after bounds: TBO's numerator and denominator, TBIO, TT and TCE; a refusal writes nothing.
 abbrev pub valuesIn : Bounds → List ℕ → List ℕ
-valuesIn (Bounded a b tbio tt tce len) before = a ∷ b ∷ tbio ∷ tt ∷ tce ∷ []
-valuesIn (BoundsRefused number place) before = before
+valuesIn (Bounded v) before = v .numerator ∷ v .denominator ∷ v .tbio ∷ v .tt ∷ v .tce ∷ []
+valuesIn (BoundsRefused r) before = before

@@ -5,12 +5,14 @@ mod word;
 use bounds::reply::Bounds;
 use net::EDGES;
 use net::OPERATIONS;
-use reader::graph::Verdict;
+use refusal::Verdict;
+use refusal::refusal_of;
+use stepping::reply::end_refusal;
+use stepping::reply::start_refusal;
+use stepping::reply::step_refusal;
 use word::bounds_word;
-use word::fired_word;
-use word::look_word;
+use word::pack;
 use word::report_word;
-use word::start_word;
 use word::wait_word;
 ghost use Rattle.amg.specs.Calls.{BoundsCall, LookCall, ReportCall, RunCall, StartCall, StepCall, WaitCall};
 ghost use Rattle.amg.specs.Tables.{tables};
@@ -29,8 +31,8 @@ pub extern "C" fn amg_look(
 {
     let looked = reader::look(file);
     let verdict = looked.verdict;
-    let word = look_word(verdict);
-    if let Verdict::Refused { number, place } = verdict {
+    let word = pack(refusal_of(verdict), 0);
+    if let Verdict::Refused(refusal) = verdict {
         return word;
     }
     let g = looked.graph;
@@ -51,7 +53,7 @@ pub extern "C" fn amg_start(file: &[u8], marking: &mut [u8]) -> u64
     ensures { λ w. ⌜ StartCall (now (file .entry)) (now (marking .entry)) w (now (marking .exit)) ⌝ }
 {
     let said = stepping::start(file, marking);
-    start_word(said)
+    pack(start_refusal(said), 0)
 }
 
 #[no_mangle]
@@ -59,7 +61,7 @@ pub extern "C" fn amg_step(file: &[u8], marking: &mut [u8], transition: u16) -> 
     ensures { λ w. ⌜ StepCall (now (file .entry)) (now (marking .entry)) transition w (now (marking .exit)) ⌝ }
 {
     let said = stepping::step(file, marking, transition);
-    fired_word(said, 0)
+    pack(step_refusal(said), 0)
 }
 
 // The word's count is the firings.
@@ -68,8 +70,8 @@ pub extern "C" fn amg_run(file: &[u8], marking: &mut [u8], list: &[u16]) -> u64
     ensures { λ w. ⌜ RunCall (now (file .entry)) (now (marking .entry)) (now (list .entry)) w (now (marking .exit)) ⌝ }
 {
     let said = stepping::run(file, marking, list);
-    let answer = said.answer;
-    fired_word(answer, said.fired as u64)
+    let end = said.end;
+    pack(end_refusal(end), said.fired as u64)
 }
 
 // The word's count is the wait.
@@ -88,15 +90,14 @@ pub extern "C" fn amg_bounds(file: &[u8], circuit: &mut [u16], values: &mut [u64
 {
     let said = bounds::bounds(file, circuit);
     let word = bounds_word(said);
-    if let Bounds::Bounded {
-        numerator,
-        denominator,
-        tbio,
-        tt,
-        tce,
-        length,
-    } = said {
-        *values = [numerator, denominator, tbio as u64, tt as u64, tce as u64];
+    if let Bounds::Bounded(found) = said {
+        *values = [
+            found.numerator,
+            found.denominator,
+            found.tbio as u64,
+            found.tt as u64,
+            found.tce as u64,
+        ];
     }
     word
 }

@@ -3,16 +3,18 @@ use mathlib.Core.Path.{_≡_, ap, sym}
 use mathlib.Core.List.{List, [], _∷_}
 use Prim.Native.Nat.{ℕ}
 use borrow.Author.Needs.{needs}
+use Rattle.refusal.specs.declared.Refusal.{Refusal}
+use Rattle.bounds.specs.declared.measure.Measures.{Measures}
 use Rattle.bounds.specs.declared.reply.Bounds.{Bounds}
 use Rattle.bounds.specs.declared.reply.Bounds.the-variants.{Bounded, Refused}
 use Rattle.amg.specs.Tables.{valuesIn}
 use Rattle.amg.proofs.amg_bounds.Statement.{statement}
 use Rattle.amg.proofs.amg_bounds.Tie as tie
 
-kept : (r : Bounds) (v : List ℕ) {number place : ℕ} → r ≡ Refused number place → v ≡ valuesIn r v
+kept : (r : Bounds) (v : List ℕ) {x : Refusal} → r ≡ Refused x → v ≡ valuesIn r v
 kept r v e = sym (ap (λ (u : Bounds). valuesIn u v) e)
 
-written : (r : Bounds) (v : List ℕ) {a b tbio tt tce len : ℕ} → r ≡ Bounded a b tbio tt tce len → a ∷ b ∷ tbio ∷ tt ∷ tce ∷ [] ≡ valuesIn r v
+written : (r : Bounds) (v : List ℕ) {x : Measures} → r ≡ Bounded x → x .numerator ∷ x .denominator ∷ x .tbio ∷ x .tt ∷ x .tce ∷ [] ≡ valuesIn r v
 written r v e = sym (ap (λ (u : Bounds). valuesIn u v) e)
 
 bounds-requires : tie.Need-bounds-requires

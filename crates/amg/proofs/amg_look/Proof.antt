@@ -4,16 +4,17 @@ use mathlib.Core.List.{[], _∷_}
 use Prim.Native.Nat.{ℕ}
 use denote.Ref.{now}
 use borrow.Author.Needs.{needs}
-use Rattle.reader.specs.Accepted.{Accepted as Allows}
+use Rattle.net.specs.Good.{Good}
 use Rattle.reader.specs.declared.graph.Graph.{Graph}
-use Rattle.reader.specs.declared.graph.Verdict.{Verdict}
-use Rattle.reader.specs.declared.graph.Verdict.the-variants.{Accepted, Refused}
-use Rattle.reader.proofs.Accepting.{accepted}
+use Rattle.refusal.specs.declared.Refusal.{Refusal}
+use Rattle.refusal.specs.declared.Verdict.{Verdict}
+use Rattle.refusal.specs.declared.Verdict.the-variants.{Accepted, Refused}
+use Rattle.reader.proofs.Accepting.{accepted-good}
 use Rattle.amg.specs.Tables.{Tables, shownIn, tables}
 use Rattle.amg.proofs.amg_look.Statement.{statement}
 use Rattle.amg.proofs.amg_look.Tie as tie
 
-kept : (v : Verdict) (g : Graph) (b : Tables) {number place : ℕ} → v ≡ Refused number place → b ≡ shownIn v g b
+kept : (v : Verdict) (g : Graph) (b : Tables) {r : Refusal} → v ≡ Refused r → b ≡ shownIn v g b
 kept v g b e = sym (ap (λ (u : Verdict). shownIn u g b) e)
 
 written : (v : Verdict) (g : Graph) (b : Tables) → v ≡ Accepted → tables (g .operations ∷ g .edges ∷ []) (g .times) (g .from) (g .to) (g .mark) ≡ shownIn v g b
