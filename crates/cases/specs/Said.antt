@@ -20,7 +20,7 @@ use Rattle.waiting.specs.Reply.{WaitReply}
 use Rattle.tbo.specs.TBO.{TBO}
 use Rattle.paths.specs.Longest.{TBIO, TCE, TT}
 use Rattle.circuit.specs.Chosen.{Chosen}
-use Rattle.bounds.specs.declared.measure.Measures.{Measures}
+use Rattle.bounds.specs.declared.reply.Measures.{Measures}
 use Rattle.report.specs.Reply.{Numbers, ReportReply, reportBytes, textOf}
 use Rattle.report.specs.declared.reply.Report.the-variants.{Written}
 

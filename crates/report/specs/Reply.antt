@@ -14,7 +14,7 @@ use Rattle.reader.specs.declared.graph.Graph.{Graph}
 use Rattle.tbo.specs.TBO.{TBO}
 use Rattle.paths.specs.Longest.{TBIO, TCE, TT}
 use Rattle.circuit.specs.Chosen.{Chosen}
-use Rattle.bounds.specs.declared.measure.Measures.{Measures}
+use Rattle.bounds.specs.declared.reply.Measures.{Measures}
 use Rattle.pen.specs.Lines.{Put}
 use Rattle.lines.specs.Text.{refusedLine, reportText}
 use Rattle.report.specs.declared.reply.Report.{Report}

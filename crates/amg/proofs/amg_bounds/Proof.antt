@@ -4,7 +4,7 @@ use mathlib.Core.List.{List, [], _∷_}
 use Prim.Native.Nat.{ℕ}
 use borrow.Author.Needs.{needs}
 use Rattle.refusal.specs.declared.Refusal.{Refusal}
-use Rattle.bounds.specs.declared.measure.Measures.{Measures}
+use Rattle.bounds.specs.declared.reply.Measures.{Measures}
 use Rattle.bounds.specs.declared.reply.Bounds.{Bounds}
 use Rattle.bounds.specs.declared.reply.Bounds.the-variants.{Bounded, Refused}
 use Rattle.amg.specs.Tables.{valuesIn}
