@@ -1,18 +1,20 @@
 -- A graph that keeps its counts and its rows is good.
 use mathlib.Core.List.{List}
-use Prim.Native.Nat.{_+_, _<_, _≤_, ℕ}
+use Prim.Native.Nat.{_%_, _*_, _+_, _-_, _/_, _<_, _≤_, ℕ}
+use native.Mathlib.Decide.{decLt, ℕ-discrete}
 use native.Mathlib.Omega.{arith}
 use Rattle.refusal.specs.Asking.{Sound}
 use lib.ListN.{length}
-use Rattle.marked.specs.Net.{Walk, go, stop}
+use Rattle.marked.specs.Net.{Walk, at, go, stop}
 use Rattle.marked.specs.Circuits.{Live}
 use Rattle.marked.proofs.Alive.{live-circuits}
-use Rattle.net.specs.Limits.{EdgeCount, OperationCount}
-use Rattle.net.specs.Plan.{Plan, rows}
+use Rattle.net.specs.Limits.{EdgeCount, OperationCount, longestTime}
+use Rattle.net.specs.Plan.{Plan, rows, timeAt}
+use Rattle.net.specs.Ends.{startAt, timeOf}
 use Rattle.net.specs.Graph.{netOf, startOf}
 use Rattle.net.specs.Rules.{Alive, Allowed, Edge, Transition, graphRows}
 use Rattle.net.specs.Good.{Good, Marked, Wired}
-use Rattle.net.proofs.Shapes.{wired-proper}
+use Rattle.net.proofs.Shapes.{start-ready, start-ring, start-single, time-other, time-process, wired-proper}
 
 module _ {n e : ℕ} (times from to mark buffers : List ℕ) (few : OperationCount n) (several : EdgeCount e) where
   abbrev g : Plan
@@ -55,3 +57,20 @@ module _ {n e : ℕ} (times from to mark buffers : List ℕ) (few : OperationCou
         joined = ok .kept .1 .1 .1 .0;
         live = alive-live wired (ok .kept .1 .1 .1 .1 .0);
       }
+
+-- No place of a marked graph has more than one token at the start,
+pub marked-few : {n e : ℕ} {mark : List ℕ} → Marked n e mark → (p : ℕ) → p < 3 * n + 2 * e → startAt n (at mark) p ≤ 1
+marked-few {n} {e} {mark} ok p h = elim (decLt p (3 * n)) [
+  | yes k ↦ elim (ℕ-discrete (p % 3) 2) [
+    | yes j ↦ omega (arith, start-ready n (at mark) p k j)
+    | no j ↦ omega (arith, start-ring n (at mark) p k j)
+  ]
+  | no k ↦ start-single n (at mark) p (ok .single ((p - 3 * n) / 2) (omega arith))
+]
+
+-- and no transition of a good graph takes longer than an operation may.
+pub good-short : {n e : ℕ} {times from to mark buffers : List ℕ} → Good n e times from to mark buffers → (t : ℕ) → t < 3 * n + 2 → timeOf (timeAt times) t ≤ longestTime
+good-short {times = times} ok t h = elim (ℕ-discrete (t % 3) 2) [
+  | yes k ↦ omega (arith, time-process (timeAt times) t k, ok .timely (t / 3 + 1) (record { low-met = omega arith; high-met = omega arith }) .high-met)
+  | no k ↦ omega (arith, time-other (timeAt times) t k)
+]

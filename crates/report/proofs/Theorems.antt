@@ -1,53 +1,59 @@
--- The reply of report is one, every byte of the buffer included; it is blind to labels; 14 comes first; and it fits 4,096 bytes.
+-- The reply of report is one, every byte of the buffer included; it is blind to labels; 14 comes first; it fits its room; and each wait that it prints meets demand 3.
 use mathlib.Core.Path.{_≡_, ap, refl, subst, sym}
 use mathlib.Core.List.{List}
 use Prim.Native.Nat.{ℕ, _*_, _+_, _<_, _≤_}
 use native.Mathlib.Omega.{arith}
 use lib.ListN.{length}
-use Rattle.marked.specs.Wait.{Waits}
+use Rattle.refusal.specs.Asking.{Given}
+use Rattle.refusal.specs.declared.Refusal.{Refusal}
+use Rattle.refusal.proofs.Asked.{given-here, judged-given, lowest-whole}
+use Rattle.refusal.proofs.Determined.{given-unique, sound-not-given}
+use Rattle.marked.specs.Wait.{Demand3}
 use Rattle.marked.proofs.Demand.{wait-sum-unique}
 use Rattle.marked.proofs.Largest.{largest-unique}
 use Rattle.marked.proofs.Wait.{wait-demand}
-use Rattle.net.specs.Graph.{netOf, startOf}
-use Rattle.net.proofs.Shapes.{limited-proper}
-use Rattle.reader.specs.Accepted.{Accepted}
-use Rattle.reader.specs.Reply.{Judged, shown}
+use Rattle.net.specs.Graph.{netOf, startOf, timesOf}
+use Rattle.net.specs.Good.{Good}
+use Rattle.net.proofs.Shapes.{wired-proper}
 use Rattle.file.specs.Labels.{SameButLabels}
-use Rattle.reader.specs.Outcome.{Ends, Outcome, accepted, passed, refused as stopped, unread}
+use Rattle.reader.specs.Reply.{shown}
+use Rattle.reader.specs.Outcome.{Ends, accepted, passed, refusal, refused as stopped, unread}
 use Rattle.reader.specs.declared.graph.Graph.{Graph}
-use Rattle.reader.proofs.Accepting.{accepted as look-accepted}
-use Rattle.reader.proofs.Outcomes.{outcome-determined, outcome-label-blind}
+use Rattle.reader.proofs.Accepting.{accepted-good}
+use Rattle.reader.proofs.Outcomes.{accepted-not-refused, accepted-same, outcome-carries, outcome-determined, refusal-same}
 use Rattle.paths.proofs.Order.{tbio-unique, tce-unique, tt-unique}
 use Rattle.circuit.specs.Chosen.{Chosen}
 use Rattle.circuit.proofs.Unique.{chosen-unique}
+use Rattle.bounds.specs.declared.reply.Measures.{Measures}
 use Rattle.pen.proofs.PutLaws.{series-same, put-length, put-unique}
 use Rattle.lines.specs.Text.{reportText, waitLine, waitLines, waitOf}
-use Rattle.report.specs.Reply.{Numbers, Replies, ReportReply, lengthOf, refused, reportRows, short, written}
+use Rattle.lines.proofs.FitLaws.{refused-fits}
+use Rattle.report.specs.Reply.{Numbers, ReportReply, lengthOf, refused, reportBytes, reportRows, roomRows, short, textOf, written}
 use Rattle.report.specs.declared.reply.Report.{Report}
 use Rattle.report.specs.declared.reply.Report.the-variants.{Refused, Written}
-use Rattle.lines.proofs.FitLaws.{refused-fits}
 use Rattle.report.proofs.Refusals.{given-small}
 use Rattle.report.proofs.Small.{numbers-fit}
 
--- A graph that the report goes on with is one that look has accepted.
-ends-accepted : {f : List ℕ} {o : Outcome} {g : Graph} → Ends f reportRows o → o ≡ accepted g → Accepted g
-ends-accepted {f} h e = go (subst (Ends f reportRows) e h)
-  where
-    go : {g : Graph} → Ends f reportRows (accepted g) → Accepted g
-    go (passed {r = r} q v s) = look-accepted f r v q
+-- A graph that the report goes on with is good, for look has accepted it.
+pub reported-good : {f : List ℕ} {g : Graph} → Ends f reportRows (accepted g)
+    → Good (g .operations) (g .edges) (g .times) (g .from) (g .to) (g .mark) (g .buffers)
+reported-good {f} (passed {l = l} q v s) = accepted-good f l v q
 
 -- One graph has one report.
-one-text : {g : Graph} {a b x y z c d u v w : ℕ} {ring other : List ℕ} {waits sums : ℕ → ℕ}
-    → Accepted g → Numbers (shown g) a b x y z ring waits → Numbers (shown g) c d u v w other sums
-    → reportText (g .operations) (g .edges) a b x y z ring waits ≡ reportText (g .operations) (g .edges) c d u v w other sums
+one-text : {g : Graph} {v w : Measures} {ring other : List ℕ} {waits sums : ℕ → ℕ}
+    → Good (g .operations) (g .edges) (g .times) (g .from) (g .to) (g .mark) (g .buffers)
+    → Numbers (shown g) v ring waits → Numbers (shown g) w other sums → textOf (shown g) v ring waits ≡ textOf (shown g) w other sums
 unfolding reportText waitLines
-one-text {g} {a} {b} {c = c} {d = d} {ring = ring} {waits = waits} {sums = sums} ok p q =
+one-text {g} {v} {w} {ring} {waits = waits} {sums = sums} ok p q =
     let net = netOf (shown g) in
     let start = startOf (shown g) in
-    let e = largest-unique net start (ok .live) a b c d (p .largest) (q .largest) (p .reduced) (q .reduced) in
+    let time = timesOf (shown g) in
+    let a = v .numerator in
+    let b = v .denominator in
+    let e = largest-unique net start time (ok .live) a b (w .numerator) (w .denominator) (p .tbo .largest) (q .tbo .largest) (p .tbo .reduced) (q .tbo .reduced) in
     let e₀ = e .0 in
     let e₁ = e .1 in
-    let h : Chosen net start c d ring = rw (sym e₀, sym e₁) (p .circuit) in
+    let h : Chosen net start time (w .numerator) (w .denominator) ring = rw (sym e₀, sym e₁) (p .circuit) in
     let e₂ = chosen-unique h (q .circuit) in
     let e₃ = tbio-unique (p .tbio) (q .tbio) in
     let e₄ = tt-unique (p .tt) (q .tt) in
@@ -55,56 +61,62 @@ one-text {g} {a} {b} {c = c} {d = d} {ring = ring} {waits = waits} {sums = sums}
     let e₆ = series-same (waitOf waits) (waitOf sums) (3 * g .operations + 2) (λ t l. ap (waitLine t) (wait-sum-unique (p .waits t l) (q .waits t l))) in
     cc
 
-one-reply : {before after after′ : List ℕ} {o : Outcome} {r s : Report} → ((g : Graph) → o ≡ accepted g → Accepted g) → Replies before o r after → Replies before o s after′ → (r ≡ s) × (after ≡ after′)
-one-reply ok (short l) (short k) = (refl, refl)
-one-reply ok (short l) (refused k q) = absurd (omega arith)
-one-reply ok (short l) (written k y q) = absurd (omega arith)
-one-reply ok (refused l p) (short k) = absurd (omega arith)
-one-reply ok (written l x p) (short k) = absurd (omega arith)
-one-reply ok (refused {k = k} {x = x} _ p) (refused _ q) = let e = put-unique refl p q in (ap (Refused k x) (e .0), e .1)
-one-reply ok (written {g = g} _ x p) (written _ y q) = let e = put-unique (one-text (ok g refl) x y) p q in (ap Written (e .0), e .1)
-
 -- Two replies that `ReportReply` allows are equal, and so is every byte of the buffer after them.
 pub report-determined : (f before : List ℕ) (r s : Report) (after after′ : List ℕ) → ReportReply f before r after → ReportReply f before s after′ → (r ≡ s) × (after ≡ after′)
-report-determined f before r s after after′ p q =
-    let e : p .outcome ≡ q .outcome = outcome-determined f reportRows (p .ends) (q .ends) in
-    one-reply (λ g o. ends-accepted (q .ends) o) (subst (λ (o : Outcome). Replies before o r after) e (p .replies)) (q .replies)
+report-determined f before r s after after′ (short p) (short q) = (ap (λ (x : Refusal). Refused x 0) (given-unique p q), refl)
+report-determined f before r s after after′ (short p) (refused k e q) = absurd (sound-not-given k p)
+report-determined f before r s after after′ (short p) (written k e n q) = absurd (sound-not-given k p)
+report-determined f before r s after after′ (refused k e p) (short q) = absurd (sound-not-given k q)
+report-determined f before r s after after′ (written k e n p) (short q) = absurd (sound-not-given k q)
+report-determined f before r s after after′ (refused {r = x} _ e p) (refused {r = y} {len = len} _ d q) =
+    let same : x ≡ y = refusal-same (outcome-determined f reportRows e d) in
+    let puts = put-unique (ap (λ (z : Refusal). _) same) p q in
+    (cc, puts .1)
+report-determined f before r s after after′ (refused _ e p) (written _ d n q) = accepted-not-refused (outcome-determined f reportRows d e)
+report-determined f before r s after after′ (written _ e n p) (refused _ d q) = accepted-not-refused (outcome-determined f reportRows e d)
+report-determined f before r s after after′ (written {v = v} {ring = ring} {wait = wait} _ e n p) (written {g = h} _ d m q) =
+    let same = accepted-same (outcome-determined f reportRows e d) in
+    let k : Numbers (shown h) v ring wait = subst (λ (x : Graph). Numbers (shown x) v ring wait) same n in
+    let text = ap (λ (x : Graph). textOf (shown x) v ring wait) same in
+    let puts = put-unique text p (rw (one-text (reported-good d) k m) q) in
+    (ap (λ (l : ℕ). Written l) (puts .0), puts .1)
 
--- Files that differ only in labels are allowed the same replies.
-pub report-label-blind : (f g before : List ℕ) (r : Report) (after : List ℕ) → SameButLabels f g → ReportReply f before r after → ReportReply g before r after
-report-label-blind f g before r after s p = record { outcome = p .outcome; ends = outcome-label-blind s (p .ends); replies = p .replies }
+-- A reply for a file is one for each file that differs only in labels,
+report-carries : {f g before after : List ℕ} {r : Report} → SameButLabels f g → ReportReply f before r after → ReportReply g before r after
+report-carries s (short p) = short p
+report-carries s (refused k e p) = refused k (outcome-carries s e) p
+report-carries s (written k e n p) = written k (outcome-carries s e) n p
 
--- 14 comes first: a buffer without room has no other reply, whatever the file is.
-pub report-short : (f before : List ℕ) (r : Report) (after : List ℕ) → length before < 4096 → ReportReply f before r after → (r ≡ Refused 14 0 0) × (after ≡ before)
-report-short f before r after l p = of (p .replies)
-  where
-    of : {o : Outcome} {r : Report} {after : List ℕ} → Replies before o r after → (r ≡ Refused 14 0 0) × (after ≡ before)
-    of (short k) = (refl, refl)
-    of (refused k q) = absurd (omega arith)
-    of (written k x q) = absurd (omega arith)
+-- so files that differ only in labels get equal replies, and leave equal bytes.
+pub report-label-blind : (f g before : List ℕ) (r s : Report) (after after′ : List ℕ) → SameButLabels f g → ReportReply f before r after → ReportReply g before s after′
+    → (r ≡ s) × (after ≡ after′)
+report-label-blind f g before r s after after′ same p q = report-determined g before r s after after′ (report-carries same p) q
 
-reply-fits : {f before after : List ℕ} {o : Outcome} {r : Report} → Ends f reportRows o → Replies before o r after → lengthOf r ≤ 4096
-reply-fits h (short l) = omega arith
-reply-fits {f} (unread {r = r} q v) (refused {k = k} {x = x} _ p) =
-    let g = given-small f (subst (Judged f) v (q .judged)) in
-    omega (arith, p .place, refused-fits k x (omega (arith, g .0)) (omega (arith, g .1)))
-reply-fits (stopped q v g) (refused _ p) = absurd (g .here .broken .0)
-reply-fits {f} (passed {r = r} q v s) (written _ x p) = omega (arith, p .place, numbers-fit (look-accepted f r v q) x)
+-- 14 is given just for a buffer without room,
+pub short-given : {before : List ℕ} → length before < reportBytes → Given (roomRows before) (record { number = 14; place = 0 })
+short-given l = given-here (record { number = 14; place = 0 }) refl (lowest-whole (λ h. omega arith))
 
--- Every report fits 4,096 bytes, a refusal's line too.
-pub report-fits-room : (f before : List ℕ) (r : Report) (after : List ℕ) → ReportReply f before r after → lengthOf r ≤ 4096
-report-fits-room f before r after p = reply-fits (p .ends) (p .replies)
+-- and comes first: such a buffer has no other reply, whatever the file is.
+pub report-short : (f before : List ℕ) (r : Report) (after : List ℕ) → length before < reportBytes → ReportReply f before r after
+    → (r ≡ Refused (record { number = 14; place = 0 }) 0) × (after ≡ before)
+report-short f before r after l p = report-determined f before r (Refused (record { number = 14; place = 0 }) 0) after before p (short (short-given l))
+
+-- Every report fits its room, a refusal's line too.
+pub report-fits-room : (f before : List ℕ) (r : Report) (after : List ℕ) → ReportReply f before r after → lengthOf r ≤ reportBytes
+report-fits-room f before r after (short p) = omega arith
+report-fits-room f before r after (refused {r = x} k (unread q v) p) =
+    let g = given-small f x (judged-given (rw v at (q .judged))) in
+    omega (arith, p .place, refused-fits (x .number) (x .place) (omega (arith, g .0)) (omega (arith, g .1)))
+report-fits-room f before r after (refused k (stopped q v g) p) = absurd (g .first)
+report-fits-room f before r after (written k e n p) = omega (arith, p .place, numbers-fit (reported-good e) n)
 
 -- So what is written stands within the buffer, which is as long as before.
 pub report-within : {f before after : List ℕ} {r : Report} → ReportReply f before r after → lengthOf r ≤ length after
-report-within p = of (report-fits-room _ _ _ _ p) (p .replies)
-  where
-    of : {before after : List ℕ} {o : Outcome} {r : Report} → lengthOf r ≤ 4096 → Replies before o r after → lengthOf r ≤ length after
-    of h (short l) = omega arith
-    of h (refused l q) = omega (arith, put-length q)
-    of h (written l x q) = omega (arith, put-length q)
+report-within (short p) = omega arith
+report-within {f} {before} {after} {r} (refused k e q) = omega (arith, put-length q, k .kept .0 0 refl, report-fits-room f before r after (refused k e q))
+report-within {f} {before} {after} {r} (written k e n q) = omega (arith, put-length q, k .kept .0 0 refl, report-fits-room f before r after (written k e n q))
 
 -- Each wait in a report meets demand 3 from the start.
-pub numbers-demand : {g : Graph} {a b x y z : ℕ} {ring : List ℕ} {wait : ℕ → ℕ} → Accepted g → Numbers (shown g) a b x y z ring wait
-    → (t : ℕ) → t < netOf (shown g) .transitions → Waits (netOf (shown g)) (startOf (shown g)) t (wait t)
-numbers-demand ok n t l = wait-demand (limited-proper (ok .limited)) (ok .live) (n .waits t l)
+pub numbers-demand : {g : Graph} {v : Measures} {ring : List ℕ} {wait : ℕ → ℕ} → Good (g .operations) (g .edges) (g .times) (g .from) (g .to) (g .mark) (g .buffers)
+    → Numbers (shown g) v ring wait → (t : ℕ) → t < netOf (shown g) .transitions → Demand3 (netOf (shown g)) (startOf (shown g)) t (wait t)
+numbers-demand ok n t l = wait-demand (wired-proper (ok .wired)) (ok .live) (n .waits t l)

@@ -1,1 +1,2 @@
+pub mod Reported
 pub mod Waited

@@ -34,13 +34,15 @@ pub fn report(file: &[u8], buffer: &mut [u8]) -> Report
         return Report::Refused { refusal, length };
     }
     let g = looked.graph;
-    answer(
+    let length = answer(
         g.operations,
         g.edges,
         &g.times,
         &g.from,
         &g.to,
         &g.mark,
+        &g.buffers,
         buffer,
-    )
+    );
+    Report::Written { length }
 }
