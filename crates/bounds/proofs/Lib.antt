@@ -1,3 +1,3 @@
-pub mod Granted
+pub mod Lending
 pub mod Answers
 pub mod Theorems

@@ -1,3 +1,3 @@
 pub mod Rows
 pub mod Reply
-pub mod Work
+pub mod helpers

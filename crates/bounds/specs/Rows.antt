@@ -2,17 +2,14 @@
 use Prim.Native.Nat.{ℕ, _≤_}
 use mathlib.Core.List.{List, [], _∷_}
 use lib.ListN.{length}
+use Rattle.refusal.specs.Asking.{Ask, asked}
 use Rattle.net.specs.Graph.{netOf}
 use Rattle.net.specs.Plan.{Plan}
-use Rattle.file.specs.Refusals.{Ask, nothing, whole}
-use Rattle.reader.specs.Reply.{shown}
-use Rattle.reader.specs.Outcome.{from10}
-use Rattle.reader.specs.declared.graph.Graph.{Graph}
 
 -- 14: the circuit buffer has 3N + 2 entries at least. (No circuit has more places, for it leaves from no transition twice.)
 abbrev pub Roomy : Plan → List ℕ → Type 0
 Roomy g out = netOf g .transitions ≤ length out
 
--- What `bounds` asks beyond look: 14. It asks nothing of 10 to 13.
-abbrev pub boundsRows : List ℕ → Graph → List Ask
-boundsRows out g = from10 (nothing ∷ nothing ∷ nothing ∷ nothing ∷ whole (Roomy (shown g) out) ∷ [])
+-- What `bounds` asks beyond look: 14.
+abbrev pub boundsRows : List ℕ → Plan → List Ask
+boundsRows out g = asked 14 (Roomy g out) ∷ []

@@ -3,8 +3,10 @@ use crate::measure::measure;
 use crate::reply::Bounds;
 use net::EDGES;
 use net::OPERATIONS;
+use refusal::Refusal;
 ghost use Rattle.net.specs.Plan.{rows};
-ghost use Rattle.bounds.specs.Work.{Answered, Ready};
+ghost use Rattle.net.specs.Good.{Good};
+ghost use Rattle.bounds.specs.helpers.Answered.{BoundsAnswered};
 
 pub fn answer<'a>(
     n: usize,
@@ -13,24 +15,18 @@ pub fn answer<'a>(
     from: &'a [u8; EDGES],
     to: &'a [u8; EDGES],
     mark: &'a [u8; EDGES],
+    buffers: &'a [u8; EDGES],
     circuit: &mut [u16],
 ) -> Bounds
-    requires { ⌜ Ready n e (now times) (now from) (now to) (now mark) ⌝ }
-    ensures { λ r. ⌜ Answered (rows n e (now (times .entry)) (now (from .entry)) (now (to .entry)) (now (mark .entry))) (now (circuit .entry)) r (now (circuit .exit)) ⌝ }
+    requires { ⌜ Good n e (now times) (now from) (now to) (now mark) (now buffers) ⌝ }
+    ensures { λ r. ⌜ BoundsAnswered (rows n e (now (times .entry)) (now (from .entry)) (now (to .entry)) (now (mark .entry)) (now (buffers .entry))) (now (circuit .entry)) r (now (circuit .exit)) ⌝ }
 {
     if circuit.len() < 3 * n + 2 {
-        return Bounds::Refused {
+        return Bounds::Refused(Refusal {
             number: 14,
             place: 0,
-        };
+        });
     }
-    let found = measure(n, e, times, from, to, mark, circuit);
-    Bounds::Bounded {
-        numerator: found.numerator,
-        denominator: found.denominator,
-        tbio: found.tbio,
-        tt: found.tt,
-        tce: found.tce,
-        length: found.length,
-    }
+    let found = measure(n, e, times, from, to, mark, buffers, circuit);
+    Bounds::Bounded(found)
 }

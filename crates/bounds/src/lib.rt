@@ -4,19 +4,19 @@ pub mod measure;
 pub mod reply;
 
 use answer::answer;
-use reader::graph::Verdict;
 use reader::look;
+use refusal::Verdict;
 use reply::Bounds;
 ghost use Rattle.bounds.specs.Reply.{BoundsReply};
 
-// The bounds of a file's graph, with the circuit that attains TBO in the first entries of the buffer; or the lowest of refusals 1 to 9 and 14 that applies, with nothing written.
+// The bounds of a file's graph, with the circuit that attains TBO in the first entries of the buffer; or the first of refusals 1 to 9 and 14 that applies, with nothing written.
 pub fn bounds(file: &[u8], circuit: &mut [u16]) -> Bounds
     ensures { λ r. ⌜ BoundsReply (now (file .entry)) (now (circuit .entry)) r (now (circuit .exit)) ⌝ }
 {
     let looked = look(file);
     let verdict = looked.verdict;
-    if let Verdict::Refused { number, place } = verdict {
-        return Bounds::Refused { number, place };
+    if let Verdict::Refused(refusal) = verdict {
+        return Bounds::Refused(refusal);
     }
     let g = looked.graph;
     answer(
@@ -26,6 +26,7 @@ pub fn bounds(file: &[u8], circuit: &mut [u16]) -> Bounds
         &g.from,
         &g.to,
         &g.mark,
+        &g.buffers,
         circuit,
     )
 }

@@ -1,25 +1,20 @@
 // The bounds of a graph that look has accepted, where the circuit has room.
+use crate::reply::Measures;
 use circuit::choose;
 use fraction::lowest::reduce;
 use net::EDGES;
 use net::OPERATIONS;
+use net::PLACES;
 use net::TRANSITIONS;
+use net::start::start_marking;
+use net::times::transition_times;
 use paths::path_sums;
 use tbo::largest;
 ghost use Prim.Native.Nat.{_+_, _*_, _≤_};
 ghost use lib.ListN.{length};
 ghost use Rattle.net.specs.Plan.{rows};
-ghost use Rattle.bounds.specs.Work.{Measured, Ready};
-
-// What `Bounded` tells, for callers that have tested the room.
-pub struct Measures {
-    pub numerator: u64,
-    pub denominator: u64,
-    pub tbio: u32,
-    pub tt: u32,
-    pub tce: u32,
-    pub length: usize,
-}
+ghost use Rattle.net.specs.Good.{Good};
+ghost use Rattle.bounds.specs.Reply.{BoundsOf};
 
 // The pair that `largest` finds is the time and the tokens of a closed walk: the certificate in d is for that pair, and only the reply is in lowest terms.
 pub fn measure<'a>(
@@ -29,16 +24,21 @@ pub fn measure<'a>(
     from: &'a [u8; EDGES],
     to: &'a [u8; EDGES],
     mark: &'a [u8; EDGES],
+    buffers: &'a [u8; EDGES],
     circuit: &mut [u16],
 ) -> Measures
-    requires { ⌜ Ready n e (now times) (now from) (now to) (now mark) ⌝ }
+    requires { ⌜ Good n e (now times) (now from) (now to) (now mark) (now buffers) ⌝ }
     requires { ⌜ 3 * n + 2 ≤ length (now circuit) ⌝ }
-    ensures { λ r. ⌜ Measured (rows n e (now (times .entry)) (now (from .entry)) (now (to .entry)) (now (mark .entry))) (now (circuit .entry)) r (now (circuit .exit)) ⌝ }
+    ensures { λ r. ⌜ BoundsOf (rows n e (now (times .entry)) (now (from .entry)) (now (to .entry)) (now (mark .entry)) (now (buffers .entry))) (now (circuit .entry)) r (now (circuit .exit)) ⌝ }
 {
+    let mut marking = [0u8; PLACES];
+    start_marking(n, e, mark, &mut marking);
+    let mut lasts = [0u32; TRANSITIONS];
+    transition_times(n, times, &mut lasts);
     let mut d = [0u64; TRANSITIONS];
-    let most = largest(n, e, times, from, to, mark, &mut d);
-    let length = choose(n, e, times, from, to, mark, most.num, most.den, &d, circuit);
-    let sums = path_sums(n, e, times, from, to, mark);
+    let most = largest(n, e, from, to, &marking, &lasts, &mut d);
+    let length = choose(n, e, from, to, &marking, &lasts, most.num, most.den, &d, circuit);
+    let sums = path_sums(n, e, times, from, to, mark, buffers);
     let tbo = reduce(most.num, most.den);
     Measures {
         numerator: tbo.num,

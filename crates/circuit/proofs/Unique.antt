@@ -44,3 +44,9 @@ chosen-same g m time a b c e h k s ps x = record {
   lowest = x .lowest;
   first = λ v qs y z l. x .first v qs y (attains-same g m time c e a b k (sym s) qs z) l;
 }
+
+pub handed-same :
+    (g : Net) (m time : ℕ → ℕ) (a b c e : ℕ) → 1 ≤ b → 1 ≤ e → SameRatio a b c e
+    → {before after : List ℕ} {len : ℕ} → Handed g m time a b before len after → Handed g m time c e before len after
+handed-same g m time a b c e h k s x =
+    record { ring = x .ring; chosen = chosen-same g m time a b c e h k s (x .ring) (x .chosen); long = x .long; written = x .written }

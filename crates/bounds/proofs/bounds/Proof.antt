@@ -1,18 +1,10 @@
--- Look's refusal as it stands; else the reply for look's graph, which is accepted.
+-- Look's refusal as it stands; else the reply for look's graph, which is good.
+use Rattle.bounds.proofs.Answers.{answered-reply, unread-reply}
+use Rattle.reader.proofs.Accepting.{accepted-good}
 use denote.Ref.{now}
 use borrow.Author.Needs.{needs}
-use Rattle.reader.specs.Accepted.{Accepted}
-use Rattle.reader.proofs.Accepting.{accepted}
-use Rattle.bounds.proofs.Granted.{accepted-ready}
-use Rattle.bounds.proofs.Answers.{answered-reply, unread-reply}
 use Rattle.bounds.proofs.bounds.Statement.{statement}
 use Rattle.bounds.proofs.bounds.Tie as tie
-
--- past the test, look has accepted
-passed : (c : tie.After-enum-told) → Accepted (c .before .before .look .result .graph)
-passed c =
-    let l = c .before .before in
-    accepted (now (l .before .before .before .args .file)) (l .look .result) (c .enum-told .given .1) (l .look .ensures)
 
 look-requires : tie.Need-look-requires
 look-requires c κs = search needs
@@ -21,22 +13,32 @@ enum-known-verdict : tie.Need-enum-known-verdict
 enum-known-verdict c = search needs
 
 returns : tie.Need-returns
-returns c = unread-reply (c .before .before .before .look .ensures) (c .before .verdict .given .1)
+returns c =
+    let at-verdict = c .before in
+    let at-look = at-verdict .before .before in
+    unread-reply (at-look .look .ensures) (at-verdict .verdict .given .1)
 
 enum-told : tie.Need-enum-told
 enum-told c = search needs
 
 answer-requires : tie.Need-answer-requires
-answer-requires c κs = accepted-ready (passed (c .before .before .before .before .before .before .before))
+answer-requires c κs =
+    let at-answer-arg = c .before .before .before .before .before in
+    let at-enum-told = at-answer-arg .before .before .before in
+    let at-look = at-enum-told .before .before in
+    let start = at-look .before .before .before in
+    accepted-good (now (start .args .file)) (at-look .look .result) (at-enum-told .enum-told .given .1) (at-look .look .ensures)
 
 same-length : tie.Need-same-length
 same-length c = search needs
 
 returns-2 : tie.Need-returns-2
 returns-2 c =
-    let k = c .before .before .before .before .before .before .before .before .before .before in
-    let l = k .before .before in
-    answered-reply (l .look .ensures) (k .enum-told .given .1) (c .before .before .answer .ensures)
+    let at-answer = c .before .before in
+    let at-answer-arg2 = at-answer .before .before .before .before .before in
+    let at-enum-told = at-answer-arg2 .before .before .before .before in
+    let at-look = at-enum-told .before .before in
+    answered-reply (at-look .look .ensures) (at-enum-told .enum-told .given .1) (at-answer .answer .ensures)
 
 pub bounds-spec : {M : Type 1} → statement M
 bounds-spec =
