@@ -17,6 +17,7 @@ use denote.Laws.{Is, shows}
 use denote.Array.{Array}
 use denote.Builtin.{u16, u8, usize}
 use denote.Ref.{RefT, ShrRef}
+use denote.Signature.{AllWithin, Slot, plain, shrRefTo, shrSliceOf}
 use denote.Slice.{MutSlice, ShrSlice, sliceVal}
 use denote.Struct.Steps.{spelt}
 use denote.Struct.Laws as LL
@@ -62,6 +63,19 @@ kinds i j κ₁ κ₂ = MutSlice (named i) κ₁ u8 ∷ usize ∷ ShrRef (named 
 abbrev pub tokens : {M : Type 1} (𝓤 : URA M) → Lft → Lft → Share → Share → Item 𝓤
 tokens 𝓤 κ₁ κ₂ q₁ q₂ = ‵ (flft κ₁ q₁) ⊛ ‵ (flft κ₂ q₂) ⊛ ‵ ftrue
 
+-- Their slots in a signature of n lifetimes: a number, the record, and a row and the list at the j-th.
+abbrev pub NumAt : (n : ℕ) → Slot n
+NumAt n = plain (λ _. usize)
+
+abbrev pub RecAt : (n : ℕ) → Slot n
+RecAt n = plain (λ _. T.the-row)
+
+abbrev pub RowAt : (n j : ℕ) → AllWithin n (j ∷ []) → Slot n
+RowAt n j ok = shrRefTo (j ∷ []) ok (plain (λ _. Array u8 128))
+
+abbrev pub ListAt : (n j : ℕ) → AllWithin n (j ∷ []) → Slot n
+ListAt n j ok = shrSliceOf (j ∷ []) ok (plain (λ _. u16))
+
 -- What the contracts ask and ensure.
 abbrev pub Asks : RunRecord → Rest → Type 0
 Asks h r = EntryReady (r .1 .0) (r .1 .1 .0 .now) (r .1 .1 .1 .0 .now) h (r .0 .now) (r .1 .1 .1 .1 .0 .now)
@@ -74,11 +88,13 @@ module _ {M : Type 1} (𝓤 : URA M) (H : Heap 𝓤) (A : Atoms 𝓤) (W : Given
   pub rec-in : ent 𝓤 (sep 𝓤 (sem 𝓤 H A (fat fullShare T′.mir l 0 (mach h))) (sem 𝓤 H A (T.the-row .own h (mach h ∷ [])))) (sem 𝓤 H A (partAt T.the-row fullShare h l 0))
   unfolding partOf
   rec-in =
-      qed W (‵ (fat fullShare T′.mir l 0 (mach h)) ∷ ‵ (T.the-row .own h (mach h ∷ [])) ∷ []) ∵ use1 W (‵ (cellAt fullShare (T.the-row .mir) (mach h ∷ []) l 0)) (W .laws .at-raw fullShare T′.mir l 0 (mach h)) $
+      qed W (‵ (fat fullShare T′.mir l 0 (mach h)) ∷ ‵ (T.the-row .own h (mach h ∷ [])) ∷ []) ∵
+      use1 W (‵ (cellAt fullShare (T.the-row .mir) (mach h ∷ []) l 0)) (W .laws .at-raw fullShare T′.mir l 0 (mach h)) $
       fjoin ! $ fpack ! (List Val) (λ us. fsep (cellAt fullShare (T.the-row .mir) us l 0) (T.the-row .own h us)) (mach h ∷ []) $ done !
 
   pub rec-out : ent 𝓤 (sem 𝓤 H A (partAt T.the-row fullShare h l 0)) (sep 𝓤 (sem 𝓤 H A (fat fullShare T′.mir l 0 (mach h))) (sem 𝓤 H A (T.the-row .own h (mach h ∷ []))))
   unfolding partOf
   rec-out =
-      qed W (‵ (partAt T.the-row fullShare h l 0) ∷ []) ∵ fpick ! (λ vs. fsplit ! $ spelt ! T.the-row (Is T.the-row) (shows 𝓤 H A T.the-row) (LL.vals T.the-type T′.the-laws) (LL.tells T.the-type T′.the-laws) fullShare h vs l 0 $
+      qed W (‵ (partAt T.the-row fullShare h l 0) ∷ []) ∵ fpick ! (λ vs. fsplit ! $
+      spelt ! T.the-row (Is T.the-row) (shows 𝓤 H A T.the-row) (LL.vals T.the-type T′.the-laws) (LL.tells T.the-type T′.the-laws) fullShare h vs l 0 $
       use1 W (‵ (fat fullShare T′.mir l 0 (mach h))) (W .laws .raw-at fullShare T′.mir l 0 (mach h)) $ frame ! $ done !)

@@ -28,7 +28,8 @@ pub fn entry_core<'a>(
     list: &'a [u16],
 ) -> Taken
     requires { ⌜ EntryReady n (now from) (now to) rec (now marking) (now list) ⌝ }
-    ensures { λ r. ⌜ EntryTaken n (now (from .entry)) (now (to .entry)) rec (now (marking .entry)) (now (list .entry)) (r .answer) (r .rec) (now (marking .exit)) ⌝ }
+    ensures { λ r. ⌜ EntryTaken n (now (from .entry)) (now (to .entry)) rec (now (marking .entry)) (now (list .entry)) (r .answer) (r .rec)
+        (now (marking .exit)) ⌝ }
 {
     let places = rec.places;
     let next = rec.next;
@@ -60,7 +61,8 @@ pub fn entry<'a>(
     list: &'a [u16],
 ) -> Answer
     requires { ⌜ EntryReady n (now from) (now to) (now rec) (now marking) (now list) ⌝ }
-    ensures { λ r. ⌜ EntryTaken n (now (from .entry)) (now (to .entry)) (now (rec .entry)) (now (marking .entry)) (now (list .entry)) r (now (rec .exit)) (now (marking .exit)) ⌝ }
+    ensures { λ r. ⌜ EntryTaken n (now (from .entry)) (now (to .entry)) (now (rec .entry)) (now (marking .entry)) (now (list .entry)) r
+        (now (rec .exit)) (now (marking .exit)) ⌝ }
 {
     let taken = entry_core(*rec, marking, n, from, to, list);
     *rec = taken.rec;
@@ -77,7 +79,8 @@ pub fn take<'a>(
     list: &'a [u16],
 ) -> Taken
     requires { ⌜ EntryReady n (now from) (now to) rec (now marking) (now list) ⌝ }
-    ensures { λ r. ⌜ EntryTaken n (now (from .entry)) (now (to .entry)) rec (now (marking .entry)) (now (list .entry)) (r .answer) (r .rec) (now (marking .exit)) ⌝ }
+    ensures { λ r. ⌜ EntryTaken n (now (from .entry)) (now (to .entry)) rec (now (marking .entry)) (now (list .entry)) (r .answer) (r .rec)
+        (now (marking .exit)) ⌝ }
 {
     let mut lent = rec;
     let answer = entry(&mut lent, marking, n, from, to, list);

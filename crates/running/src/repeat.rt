@@ -31,7 +31,8 @@ pub fn run_rows<'a>(
     list: &'a [u16],
 ) -> Ran
     requires { ⌜ Few n e (now from) (now to) (now marking) ⌝ }
-    ensures { λ r. ⌜ Runs (netOf (wires n e (now (from .entry)) (now (to .entry)))) (now (marking .entry)) (now (list .entry)) (r .fired) (r .end) (now (marking .exit)) ⌝ }
+    ensures { λ r. ⌜ Runs (netOf (wires n e (now (from .entry)) (now (to .entry)))) (now (marking .entry)) (now (list .entry)) (r .fired) (r .end)
+        (now (marking .exit)) ⌝ }
 {
     let mut rec = RunRecord {
         places: 3 * n + 2 * e,

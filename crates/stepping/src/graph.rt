@@ -40,7 +40,8 @@ pub fn step_graph<'a>(
     transition: u16,
 ) -> Answer
     requires { ⌜ GoodWiring n e (now from) (now to) (now mark) ⌝ }
-    ensures { λ r. ⌜ GraphStepped (plotted n e (now (from .entry)) (now (to .entry)) (now (mark .entry))) (now (marking .entry)) transition r (now (marking .exit)) ⌝ }
+    ensures { λ r. ⌜ GraphStepped (plotted n e (now (from .entry)) (now (to .entry)) (now (mark .entry))) (now (marking .entry))
+        transition r (now (marking .exit)) ⌝ }
 {
     let verdict = accepts(n, e, from, to, mark, marking);
     if let Verdict::Refused(refusal) = verdict {
@@ -60,7 +61,8 @@ pub fn run_graph<'a>(
     list: &'a [u16],
 ) -> Ran
     requires { ⌜ GoodWiring n e (now from) (now to) (now mark) ⌝ }
-    ensures { λ r. ⌜ GraphRun (plotted n e (now (from .entry)) (now (to .entry)) (now (mark .entry))) (now (marking .entry)) (now (list .entry)) r (now (marking .exit)) ⌝ }
+    ensures { λ r. ⌜ GraphRun (plotted n e (now (from .entry)) (now (to .entry)) (now (mark .entry))) (now (marking .entry)) (now (list .entry)) r
+        (now (marking .exit)) ⌝ }
 {
     let verdict = accepts(n, e, from, to, mark, marking);
     if let Verdict::Refused(refusal) = verdict {

@@ -4,8 +4,8 @@ pub mod reply;
 pub mod sum;
 
 use answer::answer;
-use refusal::Verdict;
 use reader::look;
+use refusal::Verdict;
 use reply::Wait;
 ghost use Rattle.waiting.specs.Reply.{WaitReply};
 

@@ -4,7 +4,7 @@ use Rattle.running.proofs.Entries.{entry-fired, entry-refused, ready-fe
 use Rattle.running.proofs.entry.entry_core.Statement.{statement}
 use Rattle.running.proofs.entry.entry_core.Tie as tie
 
--- Where the step is taken, and where the function begins.
+-- Where the function begins, from where the step is taken.
 abbrev start : tie.After-step-rows → tie.Start
 start c = c .before .before .before .before .before
 
@@ -36,7 +36,9 @@ same-length : tie.Need-same-length
 same-length c = search needs
 
 returns : tie.Need-returns
-returns c = entry-fired (start (c .before .before .before .before .before) .args .rec) (start (c .before .before .before .before .before) .pre) (c .before .before .before .before .before .step-rows .ensures) (c .before .enum-told .given .1)
+returns c =
+    let k = c .before .before .before .before .before in
+    entry-fired (start k .args .rec) (start k .pre) (k .step-rows .ensures) (c .before .enum-told .given .1)
 
 enum-told-2 : tie.Need-enum-told-2
 enum-told-2 c = search needs
@@ -45,7 +47,9 @@ same-length-2 : tie.Need-same-length-2
 same-length-2 c = search needs
 
 returns-2 : tie.Need-returns-2
-returns-2 c = entry-refused (start (c .before .before .before .before) .args .rec) (start (c .before .before .before .before) .pre) (c .before .before .before .before .step-rows .ensures) (c .enum-told2 .given .1)
+returns-2 c =
+    let k = c .before .before .before .before in
+    entry-refused (start k .args .rec) (start k .pre) (k .step-rows .ensures) (c .enum-told2 .given .1)
 
 pub entry-core-spec : {M : Type 1} → statement M
 entry-core-spec =
