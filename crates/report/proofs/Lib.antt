@@ -3,3 +3,4 @@ pub mod Small
 pub mod Refusals
 pub mod Answers
 pub mod Theorems
+pub mod Demand

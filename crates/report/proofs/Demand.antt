@@ -1,0 +1,35 @@
+-- From a file's bytes and report's reply: the number on each wait line meets demand 3.
+use mathlib.Core.Path.{_≡_, _∙_, ap}
+use mathlib.Core.List.{List, _++_}
+use Prim.Native.Nat.{ℕ, _<_, _≤_}
+use native.Mathlib.Omega.{arith}
+use lib.ListN.{drop, length, take}
+use lib.Seq.{sets-eq, take-at}
+use Rattle.marked.proofs.Demand.{waits-unique}
+use Rattle.pen.specs.Lines.{Put}
+use Rattle.lines.specs.Text.{headText, reportText}
+use Rattle.report.specs.Demand.{WaitsPrinted}
+use Rattle.report.specs.Reply.{ReportReply, textOf, written}
+use Rattle.report.specs.declared.reply.Report.the-variants.{Written}
+use Rattle.report.proofs.Theorems.{numbers-demand, report-within, reported-good}
+
+-- What has been put at the beginning of a buffer stands there.
+put-read : {before after text : List ℕ} {len : ℕ} → Put before 0 text after len → len ≤ length before → take len after ≡ text
+put-read {before} {after} {text} {len} p h =
+    let long : length text ≡ len = omega (arith, p .place) in
+    ap (take len) (p .stands ∙ sets-eq text before 0 (omega (arith, long))) ∙ take-at text (drop (length text) before) len long
+
+-- Demand 3 through the report.
+pub report-demand : (f before after : List ℕ) (len : ℕ) → len ≤ length before → ReportReply f before (Written len) after → WaitsPrinted f after len
+unfolding reportText
+report-demand f before after len h (written {g = g} {v = v} {ring = ring} {wait = wait} k e n p) =
+    let meets = numbers-demand {g = g} {v = v} {ring = ring} {wait = wait} (reported-good e) n in
+    record {
+      graph = g;
+      ends = e;
+      head = headText (g .operations) (g .edges) (v .numerator) (v .denominator) (v .tbio) (v .tt) (v .tce) ring;
+      wait = wait;
+      text = put-read p h;
+      meets = meets;
+      only = λ t x l d. waits-unique d (meets t l);
+    }
