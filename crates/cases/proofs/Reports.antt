@@ -4,7 +4,7 @@ use mathlib.Core.List.{List, [], _++_, _∷_}
 use Prim.Native.Nat.{_+_, _≤_, ℕ}
 use native.Mathlib.Omega.{arith}
 use lib.ListN.{drop, length}
-use lib.Seq.{sets, sets-eq}
+use lib.Seq.{sets}
 use Rattle.marked.specs.Net.{at}
 use Rattle.marked.proofs.Decide.{both?, eq?, le?, same?}
 use Rattle.net.specs.Plan.{Plan}
@@ -12,6 +12,7 @@ use Rattle.paths.specs.Longest.{DataSink, Sink, effort}
 use Rattle.pen.specs.Lines.{Put}
 use Rattle.bounds.specs.declared.reply.Measures.{Measures}
 use Rattle.report.specs.Reply.{Numbers}
+use Rattle.report.proofs.Demand.{sets-front}
 use Rattle.cases.proofs.Trying.{Tried, and, so, try}
 use Rattle.cases.proofs.Longest.{sum?}
 use Rattle.cases.proofs.Bounds.{chosen-at?, tbo?}
@@ -26,7 +27,7 @@ lists? (x ∷ xs) (y ∷ ys) = same? (λ h. let a = h .0 in let b = h .1 in cc) 
 
 -- A text at the beginning of a buffer that has room.
 pub text-put : (before text : List ℕ) {t : List ℕ} → t ≡ text → length text ≤ length before → Put before 0 t (text ++ drop (length text) before) (length text)
-text-put before text e h = record { place = sym (ap length e); stands = sym (sets-eq text before 0 h) ∙ ap (sets before 0) (sym e) }
+text-put before text e h = record { place = sym (ap length e); stands = sym (sets-front text before h) ∙ ap (sets before 0) (sym e) }
 
 module _ (g : Plan) where
   -- TBIO and TT,

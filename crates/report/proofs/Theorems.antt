@@ -1,5 +1,5 @@
 -- The reply of report is one, every byte of the buffer included; it is blind to labels; 14 comes first; it fits its room; and each wait that it prints meets demand 3.
-use mathlib.Core.Path.{_≡_, ap, refl, subst, sym}
+use mathlib.Core.Path.{_≡_, _∙_, ap, refl, subst, sym}
 use mathlib.Core.List.{List}
 use Prim.Native.Nat.{ℕ, _*_, _+_, _<_, _≤_}
 use native.Mathlib.Omega.{arith}
@@ -26,7 +26,7 @@ use Rattle.circuit.specs.Chosen.{Chosen}
 use Rattle.circuit.proofs.Unique.{chosen-unique}
 use Rattle.bounds.specs.declared.reply.Measures.{Measures}
 use Rattle.pen.proofs.PutLaws.{series-same, put-length, put-unique}
-use Rattle.lines.specs.Text.{reportText, waitLine, waitLines, waitOf}
+use Rattle.lines.specs.Text.{refusedLine, reportText, waitLine, waitLines, waitOf}
 use Rattle.lines.proofs.FitLaws.{refused-fits}
 use Rattle.report.specs.Reply.{Numbers, ReportReply, lengthOf, refused, reportBytes, reportRows, roomRows, short, textOf, written}
 use Rattle.report.specs.declared.reply.Report.{Report}
@@ -70,7 +70,8 @@ report-determined f before r s after after′ (refused k e p) (short q) = absurd
 report-determined f before r s after after′ (written k e n p) (short q) = absurd (sound-not-given k q)
 report-determined f before r s after after′ (refused {r = x} _ e p) (refused {r = y} {len = len} _ d q) =
     let same : x ≡ y = refusal-same (outcome-determined f reportRows e d) in
-    let puts = put-unique (ap (λ (z : Refusal). _) same) p q in
+    let puts = put-unique (ap (λ (z : Refusal). refusedLine (z .number) (z .place)) same) p q in
+    let long = puts .0 in
     (cc, puts .1)
 report-determined f before r s after after′ (refused _ e p) (written _ d n q) = accepted-not-refused (outcome-determined f reportRows d e)
 report-determined f before r s after after′ (written _ e n p) (refused _ d q) = accepted-not-refused (outcome-determined f reportRows e d)
@@ -78,7 +79,7 @@ report-determined f before r s after after′ (written {v = v} {ring = ring} {wa
     let same = accepted-same (outcome-determined f reportRows e d) in
     let k : Numbers (shown h) v ring wait = subst (λ (x : Graph). Numbers (shown x) v ring wait) same n in
     let text = ap (λ (x : Graph). textOf (shown x) v ring wait) same in
-    let puts = put-unique text p (rw (one-text (reported-good d) k m) q) in
+    let puts = put-unique (text ∙ one-text (reported-good d) k m) p q in
     (ap (λ (l : ℕ). Written l) (puts .0), puts .1)
 
 -- A reply for a file is one for each file that differs only in labels,
@@ -93,13 +94,13 @@ pub report-label-blind : (f g before : List ℕ) (r s : Report) (after after′ 
 report-label-blind f g before r s after after′ same p q = report-determined g before r s after after′ (report-carries same p) q
 
 -- 14 is given just for a buffer without room,
-pub short-given : {before : List ℕ} → length before < reportBytes → Given (roomRows before) (record { number = 14; place = 0 })
-short-given l = given-here (record { number = 14; place = 0 }) refl (lowest-whole (λ h. omega arith))
+pub short-given : (before : List ℕ) → length before < reportBytes → Given (roomRows before) (record { number = 14; place = 0 })
+short-given before l = given-here (record { number = 14; place = 0 }) refl (lowest-whole (λ h. omega arith))
 
 -- and comes first: such a buffer has no other reply, whatever the file is.
 pub report-short : (f before : List ℕ) (r : Report) (after : List ℕ) → length before < reportBytes → ReportReply f before r after
     → (r ≡ Refused (record { number = 14; place = 0 }) 0) × (after ≡ before)
-report-short f before r after l p = report-determined f before r (Refused (record { number = 14; place = 0 }) 0) after before p (short (short-given l))
+report-short f before r after l p = report-determined f before r (Refused (record { number = 14; place = 0 }) 0) after before p (short (short-given before l))
 
 -- Every report fits its room, a refusal's line too.
 pub report-fits-room : (f before : List ℕ) (r : Report) (after : List ℕ) → ReportReply f before r after → lengthOf r ≤ reportBytes

@@ -19,19 +19,16 @@ pub record Summing (n e : ℕ) (from to marking : List ℕ) (k : ℕ) (waits : L
   pub sums : (t : ℕ) → t < k → WaitSum (netOf (wires n e from to)) (at marking) t (at waits t)
 
 module _ {n e : ℕ} {from to marking : List ℕ} where
-  -- The entry v is the wait of t.
-  abbrev Sum : ℕ → ℕ → Type 0
-  Sum t v = WaitSum (netOf (wires n e from to)) (at marking) t v
-
   pub summing-none : (waits : List ℕ) → Summing n e from to marking 0 waits
   summing-none waits = record { sums = λ t l. absurd (omega arith) }
 
   -- One wait more.
-  pub summing-more : {k w : ℕ} (waits : List ℕ) → k < length waits → Summing n e from to marking k waits → Sum k w → Summing n e from to marking (k + 1) (set waits k w)
+  pub summing-more : {k w : ℕ} (waits : List ℕ) → k < length waits → Summing n e from to marking k waits → WaitSum (netOf (wires n e from to)) (at marking) k w
+      → Summing n e from to marking (k + 1) (set waits k w)
   summing-more {k} {w} waits h s x = record {
-    sums = below-more (λ t. Sum t (at (set waits k w) t)) k
-        (λ t l. subst (λ (v : ℕ). Sum t v) (sym (getD-set-other waits k t w 0 (λ e. omega arith))) (s .sums t l))
-        (subst (λ (v : ℕ). Sum k v) (sym (getD-set-same waits k w 0 h)) x);
+    sums = below-more (λ t. WaitSum (netOf (wires n e from to)) (at marking) t (at (set waits k w) t)) k
+        (λ t l. subst (λ (v : ℕ). WaitSum (netOf (wires n e from to)) (at marking) t v) (sym (getD-set-other waits k t w 0 (λ e. omega arith))) (s .sums t l))
+        (subst (λ (v : ℕ). WaitSum (netOf (wires n e from to)) (at marking) k v) (sym (getD-set-same waits k w 0 h)) x);
   }
 
   -- All of them, over the bytes of the start.

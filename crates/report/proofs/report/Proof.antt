@@ -1,21 +1,29 @@
--- 14 first; then look's refusal on its line, or the report of look's graph, which is accepted.
+-- 14 first; then look's refusal on its line, or the report of look's graph, which is good.
+use mathlib.Core.Path.{refl}
+use Prim.Native.Nat.{ℕ}
 use native.Mathlib.Omega.{arith}
+use denote.Ref.{now}
+use Rattle.refusal.proofs.Asked.{sound-next, sound-none}
+use Rattle.net.specs.Good.{Good}
+use Rattle.reader.specs.Outcome.{passed, unread}
+use Rattle.reader.specs.declared.graph.Graph.{Graph}
+use Rattle.reader.proofs.Accepting.{accepted-good}
+use Rattle.report.specs.Reply.{refused, short, written}
+use Rattle.report.proofs.Theorems.{short-given}
 use borrow.Author.Needs.{needs}
-use Rattle.reader.specs.Accepted.{Accepted}
-use Rattle.reader.proofs.Accepting.{accepted}
-use Rattle.report.specs.Reply.{refused}
-use Rattle.report.proofs.Answers.{graph-reply, refused-reply, short-reply}
 use Rattle.report.proofs.report.Statement.{statement}
 use Rattle.report.proofs.report.Tie as tie
 
--- past the test, look has accepted
-passed : (c : tie.After-enum-told) → Accepted (c .before .before .look .result .graph)
-passed c =
-    let l = c .before .before in
-    accepted _ (l .look .result) (c .enum-told .given .1) (l .look .ensures)
+-- Past the test for refusals, look has accepted, and its graph is good.
+abbrev looked : tie.After-enum-told → tie.After-look
+looked c = c .before .before
+
+good : (c : tie.After-enum-told) → let g = looked c .look .result .graph in
+    Good (g .operations) (g .edges) (g .times) (g .from) (g .to) (g .mark) (g .buffers)
+good c = accepted-good _ (looked c .look .result) (c .enum-told .given .1) (looked c .look .ensures)
 
 returns : tie.Need-returns
-returns c = short-reply _ (omega arith)
+returns c = short (short-given (now (c .before .before .before .args .buffer)) (omega arith))
 
 look-requires : tie.Need-look-requires
 look-requires c κs = search needs
@@ -32,21 +40,22 @@ same-length c = search needs
 returns-2 : tie.Need-returns-2
 returns-2 c =
     let v = c .before .before .before .before .before in
-    refused-reply (v .before .before .look .ensures) (v .verdict .given .1) (refused (omega arith) (c .before .before .write-refused .ensures))
+    refused (sound-next (λ _ _. omega arith) sound-none) (unread (v .before .before .look .ensures) (v .verdict .given .1)) (c .before .before .write-refused .ensures)
 
 enum-told : tie.Need-enum-told
 enum-told c = search needs
 
 answer-requires : tie.Need-answer-requires
-answer-requires c κs = (passed (c .before .before .before .before .before .before .before), omega arith)
+answer-requires c κs = (good (c .before .before .before .before .before .before .before .before), omega arith)
 
 same-length-2 : tie.Need-same-length-2
 same-length-2 c = search needs
 
 returns-3 : tie.Need-returns-3
 returns-3 c =
-    let k = c .before .before .before .before .before .before .before .before .before .before in
-    graph-reply (k .before .before .look .ensures) (k .enum-told .given .1) (c .before .before .answer .ensures)
+    let a = c .before .before in
+    let k = a .before .before .before .before .before .before .before .before .before in
+    written (sound-next (λ _ _. omega arith) sound-none) (passed (looked k .look .ensures) (k .enum-told .given .1) sound-none) (a .answer .ensures .numbers) (a .answer .ensures .put)
 
 pub report-spec : {M : Type 1} → statement M
 report-spec =
