@@ -7,9 +7,10 @@ ghost use Prim.Native.Nat.{_<_, _≤_};
 ghost use Rattle.marked.specs.Net.{at};
 ghost use Rattle.net.specs.Plan.{timeAt};
 ghost use Rattle.paths.specs.Modified.{nodeTime};
+ghost use Rattle.net.specs.Limits.{mostOperations};
 ghost use Rattle.net.specs.Good.{Good};
 ghost use Rattle.paths.specs.helpers.Answers.{Finished};
-ghost use Rattle.paths.specs.helpers.Finishing.{Backed, Lifted, AllDone, EdgesSwept, doneBy};
+ghost use Rattle.paths.specs.helpers.Finishing.{AllDone, Backed, EdgesSwept, Lifted, doneBy, mostNodes};
 
 // The number of a node, from a row.
 pub fn node(v: u8) -> usize
@@ -20,7 +21,7 @@ pub fn node(v: u8) -> usize
 
 // The time of node v: an operation's own, and none for the source and the sink.
 fn node_time(n: usize, times: &[u32; OPERATIONS], v: usize) -> u32
-    requires { ⌜ n ≤ 40 ⌝ }
+    requires { ⌜ n ≤ mostOperations ⌝ }
     ensures { λ r. ⌜ r ≡ nodeTime n (timeAt (now (times .entry))) v ⌝ }
 {
     if 0 < v {
@@ -34,7 +35,7 @@ fn node_time(n: usize, times: &[u32; OPERATIONS], v: usize) -> u32
 
 // Raises node v's entry to x where it is lower. The answer is whether an entry has changed, now or before.
 fn lift(finish: &mut [u32; NODES], v: usize, x: u32, changed: bool) -> bool
-    requires { ⌜ v < 42 ⌝ }
+    requires { ⌜ v < mostNodes ⌝ }
     ensures { λ r. ⌜ Lifted (now (finish .entry)) v x changed (now (finish .exit)) r ⌝ }
 {
     if finish[v] < x {

@@ -22,9 +22,9 @@ take-requires c κs = (c .before .before .before .before .before .pre .0, (omega
 
 add-i : tie.Need-add-i Inv-loop μ-loop
 add-i c =
-    let start = c .before .before .before .before .before .before in
-    let turn = c .before .before .before .before .before in
-    omega (arith, start .pre .0 .operations, start .pre .0 .edges, turn .loop .inv .0 .most)
+    let at-loop = c .before .before .before .before .before in
+    let start = at-loop .before in
+    omega (arith, start .pre .0 .operations, start .pre .0 .edges, at-loop .loop .inv .0 .most)
 
 loop-less : tie.Need-loop-less Inv-loop μ-loop
 loop-less c = omega arith

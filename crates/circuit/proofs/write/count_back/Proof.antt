@@ -45,17 +45,17 @@ number-requires c κs = tt
 
 add-k : tie.Need-add-k Inv-loop μ-loop
 add-k c =
-    let start = c .before .before .before .before .before .before in
-    let turn = c .before .before .before .before .before in
-    let loop-test = c .before .before .before .before .loop-test in
-    omega (arith, climb-more (start .pre .0) (start .pre .1 .0 .0) (turn .loop .inv .0) (loop-test .taken), turn .loop .inv .1, start .pre .0 .few)
+    let at-loop-test = c .before .before .before .before in
+    let at-loop = at-loop-test .before in
+    let start = at-loop .before in
+    omega (arith, climb-more (start .pre .0) (start .pre .1 .0 .0) (at-loop .loop .inv .0) (at-loop-test .loop-test .taken), at-loop .loop .inv .1, start .pre .0 .few)
 
 loop-less : tie.Need-loop-less Inv-loop μ-loop
 loop-less c =
-    let start = c .before .before .before .before .before .before in
-    let turn = c .before .before .before .before .before in
-    let loop-test = c .before .before .before .before .loop-test in
-    omega (arith, climb-more (start .pre .0) (start .pre .1 .0 .0) (turn .loop .inv .0) (loop-test .taken), turn .loop .inv .1)
+    let at-loop-test = c .before .before .before .before in
+    let at-loop = at-loop-test .before in
+    let start = at-loop .before in
+    omega (arith, climb-more (start .pre .0) (start .pre .1 .0 .0) (at-loop .loop .inv .0) (at-loop-test .loop-test .taken), at-loop .loop .inv .1)
 
 loop-again : tie.Need-loop-again Inv-loop μ-loop
 loop-again c =
