@@ -93,7 +93,9 @@ module _ {g : Loaded} {a b : ℕ} {d head next src dst : List ℕ} (l : Listing 
   pub headed : length head ≡ mostTransitions → Headed (g .net .transitions) (g .net .places) head src dst
   headed o = record { heads = λ v h. next-drawn (l .heads v h); low = l .low; long = o }
 
-  pub threaded : Proper (g .net) → g .net .transitions ≤ mostTransitions → g .net .places ≤ mostPlaces → ((p : ℕ) → p < g .net .places → g .net .src p ≢ g .net .dst p) → Threaded (g .net .transitions) (g .net .places) next src dst
+  pub threaded :
+      Proper (g .net) → g .net .transitions ≤ mostTransitions → g .net .places ≤ mostPlaces → ((p : ℕ) → p < g .net .places → g .net .src p ≢ g .net .dst p)
+      → Threaded (g .net .transitions) (g .net .places) next src dst
   threaded ok few many far = record {
     few = few;
     many = many;

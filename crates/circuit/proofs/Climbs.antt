@@ -73,7 +73,9 @@ abbrev pub climb-start : {nt np : ℕ} {src dst : List ℕ} {root goal : ℕ} (v
 climb-start via n = record { noted = n; rest = n .way; done = []; trace = n .trace; parts = sym (append-nil (n .way)) }
 
 -- One place back.
-abbrev pub climb-on : {nt np : ℕ} {src dst : List ℕ} {root goal : ℕ} {via : List ℕ} {x r y : ℕ} → (c : Climb nt np src dst root goal via x) → x ≢ root → r ≡ at via x → y ≡ at src (r - 1) → Climb nt np src dst root goal via y
+abbrev pub climb-on :
+    {nt np : ℕ} {src dst : List ℕ} {root goal : ℕ} {via : List ℕ} {x r y : ℕ} → (c : Climb nt np src dst root goal via x) → x ≢ root → r ≡ at via x → y ≡ at src (r - 1)
+    → Climb nt np src dst root goal via y
 climb-on {nt} {np} {src} {dst} {root} {goal} {via} {x} {r} {y} c f e ey = record {
   noted = c .noted;
   rest = last (c .trace) f .rest;
@@ -139,7 +141,9 @@ pub record Fill (nt np : ℕ) (src dst : List ℕ) (root goal : ℕ) (via before
 pub fill-start : {nt np : ℕ} {src dst : List ℕ} {root goal : ℕ} {via before : List ℕ} {k : ℕ} → WayCounted nt np src dst root goal via k → Fill nt np src dst root goal via before before goal k k
 fill-start {via = via} m = record { climb = climb-start via (m .noted); whole = m .count; count = omega (arith, m .count); slots = λ j h. absurd (omega arith); others = λ j h. refl; long = refl }
 
-module _ {nt np : ℕ} {next src dst : List ℕ} (o : Threaded nt np next src dst) {root goal : ℕ} (l : root < nt) {via before ring : List ℕ} {x k len : ℕ} (c : Fill nt np src dst root goal via before ring x k len) (small : nt ≤ length before) where
+module _
+    {nt np : ℕ} {next src dst : List ℕ} (o : Threaded nt np next src dst) {root goal : ℕ} (l : root < nt) {via before ring : List ℕ} {x k len : ℕ}
+    (c : Fill nt np src dst root goal via before ring x k len) (small : nt ≤ length before) where
   pub fill-left : x ≢ root → (2 ≤ k) × (k ≤ nt)
   fill-left f = climb-left o l (c .climb) (c .count) f
 

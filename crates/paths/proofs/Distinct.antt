@@ -1,4 +1,5 @@
--- No path comes to a node twice: a repeat would be a circuit of unmarked edges, and its full, data read and data processed places a closed walk without a token. So a path's operations take no more than all of them.
+-- No path comes to a node twice: a repeat would be a circuit of unmarked edges, and its full, data read and data processed places a closed walk without a token. So a path's operations take
+-- no more than all of them.
 use mathlib.Core.Path.{_≡_, _∙_, ap, refl, subst, sym}
 use mathlib.Core.Logic.{_≢_}
 use mathlib.Core.List.{List, [], _∷_}

@@ -60,7 +60,9 @@ fn raise(
 ) -> bool
     requires { ⌜ Backed n e (now times) (now from) (now to) (now mark) (now buffers) (now finish) ⌝ }
     requires { ⌜ k < e ⌝ }
-    ensures { λ r. ⌜ Lifted (now (finish .entry)) (at (now (to .entry)) k) (doneBy n (now (times .entry)) (now (from .entry)) (now (to .entry)) (now (mark .entry)) (now (finish .entry)) k) changed (now (finish .exit)) r ⌝ }
+    ensures { λ r. ⌜ Lifted (now (finish .entry)) (at (now (to .entry)) k)
+        (doneBy n (now (times .entry)) (now (from .entry)) (now (to .entry)) (now (mark .entry)) (now (finish .entry)) k) changed
+        (now (finish .exit)) r ⌝ }
 {
     let b = node(to[k]);
     let own = node_time(n, times, b);
@@ -84,7 +86,8 @@ fn sweep(
     finish: &mut [u32; NODES],
 ) -> bool
     requires { ⌜ Backed n e (now times) (now from) (now to) (now mark) (now buffers) (now finish) ⌝ }
-    ensures { λ r. ⌜ EdgesSwept n e (now (times .entry)) (now (from .entry)) (now (to .entry)) (now (mark .entry)) (now (buffers .entry)) e (now (finish .entry)) (now (finish .exit)) r ⌝ }
+    ensures { λ r. ⌜ EdgesSwept n e (now (times .entry)) (now (from .entry)) (now (to .entry)) (now (mark .entry)) (now (buffers .entry)) e
+        (now (finish .entry)) (now (finish .exit)) r ⌝ }
 {
     let mut changed = false;
     let mut k = 0;

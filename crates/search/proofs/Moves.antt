@@ -32,7 +32,9 @@ pub record Popped (g : Net) (T : ℕ → Type 0) (root goal : ℕ) (M N A : ℕ 
 
 module _ {g : Net} {T : ℕ → Type 0} {root goal : ℕ} where
   -- the start
-  pub begin : {M N A : ℕ → ℕ} → M root ≢ 0 → ((v : ℕ) → v ≢ root → M v ≡ 0) → ((q : ℕ) → q < g .places → T q → g .src q < g .transitions) → ((v : ℕ) → v < g .transitions → Next g T v 0 (A v)) → ((v : ℕ) → A v ≤ g .places) → goal ≢ root → Search g T root goal M N A root []
+  pub begin :
+      {M N A : ℕ → ℕ} → M root ≢ 0 → ((v : ℕ) → v ≢ root → M v ≡ 0) → ((q : ℕ) → q < g .places → T q → g .src q < g .transitions)
+      → ((v : ℕ) → v < g .transitions → Next g T v 0 (A v)) → ((v : ℕ) → A v ≤ g .places) → goal ≢ root → Search g T root goal M N A root []
   begin {M} {N} {A} r m i z l f = record {
     trail = here;
     listed = λ v h k. (z v h .fits k .1, z v h .fits k .2);
@@ -152,7 +154,9 @@ module _ {g : Net} {T : ℕ → Type 0} {root goal : ℕ} where
               trace = subst (λ (z : ℕ). Trace g T root goal N2 z (ts ++ (q ∷ []))) e (step q r inside tight (pn .new));
             }
 
-  pub pop : {M N A B : ℕ → ℕ} {x : ℕ} {ts : List ℕ} → Trail g T root goal M N x ts → Search g T root goal M N A x ts → A x ≡ g .places → Put A B x (g .places + 1) → x ≢ root → Popped g T root goal M N B x ts
+  pub pop :
+      {M N A B : ℕ → ℕ} {x : ℕ} {ts : List ℕ} → Trail g T root goal M N x ts → Search g T root goal M N A x ts → A x ≡ g .places → Put A B x (g .places + 1) → x ≢ root
+      → Popped g T root goal M N B x ts
   pop here s e put f = absurd (f refl)
   pop {M} {N} {A} {B} (on {x = x} {ts = ts} q t h k l o m n) s e put f = record {
     place = q;
