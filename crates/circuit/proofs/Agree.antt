@@ -99,7 +99,10 @@ module _ {g : Loaded} {a b : ℕ} {d head next src dst : List ℕ} (l : Listing 
   threaded ok few many far = record {
     few = few;
     many = many;
-    nexts = λ q h t. subst (λ (v : ℕ). Next (drawn (g .net .transitions) (g .net .places) src dst) (Listed dst) v (q + 1) (at next q)) (sym (onto .leaves q h t)) (next-drawn (l .nexts q (omega arith) h (onto .fits q h t)));
+    nexts = λ q h t. subst
+        (λ (v : ℕ). Next (drawn (g .net .transitions) (g .net .places) src dst) (Listed dst) v (q + 1) (at next q))
+        (sym (onto .leaves q h t))
+        (next-drawn (l .nexts q (omega arith) h (onto .fits q h t)));
     leaves = λ q h t. omega (arith, onto .leaves q h t, ok .src-in q h);
     enters = λ q h t. omega (arith, onto .enters q h t, ok .dst-in q h);
     apart = λ q h t e. far q h (sym (onto .leaves q h t) ∙ e ∙ onto .enters q h t);

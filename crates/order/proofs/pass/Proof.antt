@@ -34,7 +34,8 @@ loop-again c = (c .take .ensures .sorting, λ z. c .take .ensures .forced z ∙ 
 
 returns : tie.Need-returns Inv-loop μ-loop
 returns c =
-    record { sorting = sort-again (c .before .loop .inv .0) (omega (arith, c .before .loop .inv .0 .within)); fewer = omega (arith, c .before .loop .inv .0 .behind, c .before .loop .inv .0 .within); forced = c .before .loop .inv .1 }
+    let inv = c .before .loop .inv in
+    record { sorting = sort-again (inv .0) (omega (arith, inv .0 .within)); fewer = omega (arith, inv .0 .behind, inv .0 .within); forced = inv .1 }
 
 pub pass-spec : {M : Type 1} → statement M
 pass-spec =

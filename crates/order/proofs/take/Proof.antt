@@ -29,7 +29,8 @@ goal-requires : tie.Need-goal-requires
 goal-requires c κs =
     let at-number = c .before .before .before .before in
     let start = at-number .before .before in
-    (start .pre .0, subst (Item (start .args .n) (start .args .e)) (sym (at-number .number .ensures .0)) (sort-item (start .pre .1 .1) (start .pre .0 .operations) (start .pre .0 .edges) (start .pre .1 .0)))
+    let item = sort-item (start .pre .1 .1) (start .pre .0 .operations) (start .pre .0 .edges) (start .pre .1 .0) in
+    (start .pre .0, subst (Item (start .args .n) (start .args .e)) (sym (at-number .number .ensures .0)) item)
 
 element-copy-out-less : tie.Need-element-copy-out-less
 element-copy-out-less c = search needs
@@ -62,7 +63,10 @@ returns-2 : tie.Need-returns-2
 returns-2 c =
     let at-ready = c .before in
     let start = at-ready .before .before .before .before .before in
-    record { sorting = sort-kept (start .pre .1 .1) (start .pre .0 .operations) (start .pre .0 .edges) (start .pre .1 .0) refl; forced = λ z. absurd (true≢false (sym (at-ready .ready .ensures z) ∙ c .if1 .left)) }
+    record {
+      sorting = sort-kept (start .pre .1 .1) (start .pre .0 .operations) (start .pre .0 .edges) (start .pre .1 .0) refl;
+      forced = λ z. absurd (true≢false (sym (at-ready .ready .ensures z) ∙ c .if1 .left));
+    }
 
 pub take-spec : {M : Type 1} → statement M
 take-spec =

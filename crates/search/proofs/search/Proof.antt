@@ -3,7 +3,7 @@ use mathlib.Core.Path.{_∙_, sym}
 use native.Mathlib.Omega.{arith}
 use borrow.Author.Needs.{needs}
 use Rattle.search.specs.helpers.Turns.{Under}
-use Rattle.search.proofs.Turning.{left, left-less, outcome-at, outcome-gone, outcome-got, sought-no, sought-yes, under-start}
+use Rattle.search.proofs.Endings.{left, left-less, outcome-at, outcome-gone, outcome-got, sought-no, sought-yes, under-start}
 use Rattle.search.proofs.search.Statement.{statement}
 use Rattle.search.proofs.search.Tie as tie
 
@@ -36,7 +36,8 @@ loop-holds c =
     let number = c .before .before .before .number in
     let enters = start .pre .0 .enters (start .args .p) (start .pre .1 .1 .0) (start .pre .1 .1 .1) in
     let apart = start .pre .0 .apart (start .args .p) (start .pre .1 .1 .0) (start .pre .1 .1 .1) in
-    under-start (start .pre .0) (start .pre .1 .0) (omega (arith, enters, c .before .number2 .ensures .0)) (λ z. apart (sym (number .ensures .0) ∙ z ∙ c .before .number2 .ensures .0)) (start .pre .1 .1 .2)
+    let root = c .before .number2 .ensures .0 in
+    under-start (start .pre .0) (start .pre .1 .0) (omega (arith, enters, root)) (λ z. apart (sym (number .ensures .0) ∙ z ∙ root)) (start .pre .1 .1 .2)
 
 turn-requires : tie.Need-turn-requires Inv-loop μ-loop
 turn-requires c κs =

@@ -32,7 +32,10 @@ returns : tie.Need-returns
 returns c =
     let start = c .before .before .before .before in
     let index = c .before .before .index in
-    record { outcome = gone (no-way (start .pre .0) (start .pre .1) (index .ensures .0) (c .before .if1 .taken) (c .if2 .taken)) (start .pre .1 .deep); further = further (start .pre .0) (start .pre .1) (omega (arith, still (start .pre .0) (start .pre .1))) }
+    record {
+      outcome = gone (no-way (start .pre .0) (start .pre .1) (index .ensures .0) (c .before .if1 .taken) (c .if2 .taken)) (start .pre .1 .deep);
+      further = further (start .pre .0) (start .pre .1) (omega (arith, still (start .pre .0) (start .pre .1)));
+    }
 
 mul-index-2 : tie.Need-mul-index-2
 mul-index-2 c = omega (arith, stands (c .before .before .before .before .pre .0) (c .before .before .before .before .pre .1))
@@ -69,13 +72,16 @@ returns-2 c =
     let at-if1 = at-if2 .before in
     let at-index = at-if1 .before in
     let start = at-index .before .before in
-    record { outcome = moved (step-back (start .pre .0) (start .pre .1) (at-index .index .ensures .0) (at-if1 .if1 .taken) (at-if2 .if2 .left) (at-index2 .index2 .ensures .0) (c .number .ensures .0)); further = further (start .pre .0) (start .pre .1) (omega (arith, still (start .pre .0) (start .pre .1))) }
+    let back = step-back (start .pre .0) (start .pre .1) (at-index .index .ensures .0) (at-if1 .if1 .taken) (at-if2 .if2 .left) (at-index2 .index2 .ensures .0) (c .number .ensures .0) in
+    record { outcome = moved back; further = further (start .pre .0) (start .pre .1) (omega (arith, still (start .pre .0) (start .pre .1))) }
 
 mul-cur-2 : tie.Need-mul-cur-2
 mul-cur-2 c = search needs
 
 element-copy-out-cur : tie.Need-element-copy-out-cur
-element-copy-out-cur c = omega (arith, less (c .before .before .before .pre .0) (c .before .before .before .pre .1) (c .before .index .ensures .0) (c .if1 .left), c .before .before .before .pre .0 .many)
+element-copy-out-cur c =
+    let start = c .before .before .before in
+    omega (arith, less (start .pre .0) (start .pre .1) (c .before .index .ensures .0) (c .if1 .left), start .pre .0 .many)
 
 mul-cur-3 : tie.Need-mul-cur-3
 mul-cur-3 c = omega (arith, stands (c .before .before .before .before .pre .0) (c .before .before .before .before .pre .1))
@@ -136,7 +142,9 @@ returns-4 c =
     let at-if1 = at-number2 .before .before .before in
     let at-index = at-if1 .before in
     let start = at-index .before .before in
-    record { outcome = moved (pass (start .pre .0) (start .pre .1) (at-index .index .ensures .0) (at-if1 .if1 .left) (at-number2 .number2 .ensures .0) (c .if4 .taken)); further = further (start .pre .0) (start .pre .1) (beyond (start .pre .0) (start .pre .1) (at-index .index .ensures .0) (at-if1 .if1 .left)) }
+    let next = beyond (start .pre .0) (start .pre .1) (at-index .index .ensures .0) (at-if1 .if1 .left) in
+    let past = pass (start .pre .0) (start .pre .1) (at-index .index .ensures .0) (at-if1 .if1 .left) (at-number2 .number2 .ensures .0) (c .if4 .taken) in
+    record { outcome = moved past; further = further (start .pre .0) (start .pre .1) next }
 
 element-write-seen : tie.Need-element-write-seen
 element-write-seen c =
@@ -175,7 +183,9 @@ returns-5 c =
     let at-if1 = at-number2 .before .before .before in
     let at-index = at-if1 .before in
     let start = at-index .before .before in
-    record { outcome = moved (go-on (start .pre .0) (start .pre .1) (at-index .index .ensures .0) (at-if1 .if1 .left) (at-number2 .number2 .ensures .0) (c .if4 .left) (λ z. at-if3 .if3 .left (sym z))); further = further (start .pre .0) (start .pre .1) (beyond (start .pre .0) (start .pre .1) (at-index .index .ensures .0) (at-if1 .if1 .left)) }
+    let next = beyond (start .pre .0) (start .pre .1) (at-index .index .ensures .0) (at-if1 .if1 .left) in
+    let onward = go-on (start .pre .0) (start .pre .1) (at-index .index .ensures .0) (at-if1 .if1 .left) (at-number2 .number2 .ensures .0) (c .if4 .left) (λ z. at-if3 .if3 .left (sym z)) in
+    record { outcome = moved onward; further = further (start .pre .0) (start .pre .1) next }
 
 pub turn-spec : {M : Type 1} → statement M
 turn-spec =

@@ -67,7 +67,9 @@ loop-again c =
 returns : tie.Need-returns Inv-loop μ-loop
 returns c =
     let start = c .before .before in
-    record { noted = c .before .loop .inv .0 .noted; count = omega (arith, c .before .loop .inv .1, ap length (climb-end (start .pre .0) (start .pre .1 .0 .0) (c .before .loop .inv .0) (start .pre .1 .0 .1) (c .loop-test .left))) }
+    let inv = c .before .loop .inv in
+    let end = climb-end (start .pre .0) (start .pre .1 .0 .0) (inv .0) (start .pre .1 .0 .1) (c .loop-test .left) in
+    record { noted = inv .0 .noted; count = omega (arith, inv .1, ap length end) }
 
 pub count-back-spec : {M : Type 1} → statement M
 count-back-spec =

@@ -2,7 +2,8 @@
 use lib.ListN.{length-set}
 use denote.Ref.{now}
 use native.Mathlib.Omega.{arith}
-use Rattle.circuit.proofs.Climbs.{Fill, climb-in, climb-place, fill-end, fill-left, fill-on, fill-start, noted-to, root-apart, root-in}
+use Rattle.circuit.proofs.Climbs.{climb-in, climb-place}
+use Rattle.circuit.proofs.Fills.{Fill, fill-end, fill-left, fill-on, fill-start, noted-to, root-apart, root-in}
 use Rattle.circuit.proofs.write.hand_out.Statement.{statement}
 use Rattle.circuit.proofs.write.hand_out.Tie as tie
 
@@ -30,7 +31,8 @@ count-back-requires c κs =
     let number = c .before .before .number in
     let root = root-in (start .pre .0) (start .pre .1 .0 .0) (start .pre .1 .0 .1) (c .number2 .ensures .0) in
     let apart = root-apart (start .pre .0) (start .pre .1 .0 .0) (start .pre .1 .0 .1) (c .number2 .ensures .0) (number .ensures .0) in
-    let noted = noted-to (start .args .nt) (start .args .np) (now (start .args .src)) (now (start .args .dst)) (now (start .args .via)) (start .args .p) (c .number2 .ensures .0) (number .ensures .0) (start .pre .1 .1) in
+    let a = start .args in
+    let noted = noted-to (a .nt) (a .np) (now (a .src)) (now (a .dst)) (now (a .via)) (a .p) (c .number2 .ensures .0) (number .ensures .0) (start .pre .1 .1) in
     (start .pre .0, ((root, apart), noted))
 
 loop-holds : tie.Need-loop-holds Inv-loop μ-loop
