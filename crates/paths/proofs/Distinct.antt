@@ -70,9 +70,9 @@ module _ {g : Plan} (ok : Passing g) where
   clears (modified.go {ns = ns} (modified.stays e h k) p) l = (
     λ i. record { ps = _; walk = across e h k l stop; some = omega arith; none = across-none e h k l [] (omega arith) },
     all-map {P = ClearTo g (g .to e)} {Q = ClearTo g (g .from e)}
-    (λ v r i. let c = r i in record { ps = _; walk = across e h k l (c .walk); some = omega arith; none = across-none e h k l (c .ps) (c .none) })
-    ns
-    (clears p (ok .enters e h)),
+        (λ v r i. let c = r i in record { ps = _; walk = across e h k l (c .walk); some = omega arith; none = across-none e h k l (c .ps) (c .none) })
+        ns
+        (clears p (ok .enters e h)),
   )
   clears (modified.go (modified.begins e h k) p) l = absurd (omega arith)
   clears (modified.go (modified.ends e h k) p) l = (λ i. absurd (omega arith), rw (sink-ends ok p (omega arith) .0) tt)
