@@ -55,7 +55,9 @@ one-bounds g {r} {s} {before} {after} live x y =
     } in
     (same, u .1)
 
-one-reply : {before after after′ : List ℕ} {o : Outcome} {r s : Bounds} → ((g : Graph) → o ≡ accepted g → GoodGraph g) → BoundsReplies before o r after → BoundsReplies before o s after′ → (r ≡ s) × (after ≡ after′)
+one-reply :
+    {before after after′ : List ℕ} {o : Outcome} {r s : Bounds} → ((g : Graph) → o ≡ accepted g → GoodGraph g) → BoundsReplies before o r after → BoundsReplies before o s after′
+    → (r ≡ s) × (after ≡ after′)
 one-reply a refused refused = (refl, refl)
 one-reply a (bounded {g = g} x) (bounded y) = let u = one-bounds (shown g) (a g refl .live) x y in (λ i. Bounded (u .0 i), u .1)
 

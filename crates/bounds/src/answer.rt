@@ -19,7 +19,9 @@ pub fn answer<'a>(
     circuit: &mut [u16],
 ) -> Bounds
     requires { ⌜ Good n e (now times) (now from) (now to) (now mark) (now buffers) ⌝ }
-    ensures { λ r. ⌜ BoundsAnswered (rows n e (now (times .entry)) (now (from .entry)) (now (to .entry)) (now (mark .entry)) (now (buffers .entry))) (now (circuit .entry)) r (now (circuit .exit)) ⌝ }
+    ensures { λ r. ⌜ BoundsAnswered
+        (rows n e (now (times .entry)) (now (from .entry)) (now (to .entry)) (now (mark .entry)) (now (buffers .entry)))
+        (now (circuit .entry)) r (now (circuit .exit)) ⌝ }
 {
     if circuit.len() < 3 * n + 2 {
         return Bounds::Refused(Refusal {

@@ -9,7 +9,8 @@ use refusal::Verdict;
 use reply::Bounds;
 ghost use Rattle.bounds.specs.Reply.{BoundsReply};
 
-// The bounds of a file's graph, with the circuit that attains TBO in the first entries of the buffer; or the first of refusals 1 to 9 and 14 that applies, with nothing written.
+// The bounds of a file's graph, with the circuit that attains TBO in the first entries of the buffer; or the first of refusals 1 to 9 and 14 that
+// applies, with nothing written.
 pub fn bounds(file: &[u8], circuit: &mut [u16]) -> Bounds
     ensures { λ r. ⌜ BoundsReply (now (file .entry)) (now (circuit .entry)) r (now (circuit .exit)) ⌝ }
 {

@@ -29,7 +29,8 @@ pub fn measure<'a>(
 ) -> Measures
     requires { ⌜ Good n e (now times) (now from) (now to) (now mark) (now buffers) ⌝ }
     requires { ⌜ 3 * n + 2 ≤ length (now circuit) ⌝ }
-    ensures { λ r. ⌜ BoundsOf (rows n e (now (times .entry)) (now (from .entry)) (now (to .entry)) (now (mark .entry)) (now (buffers .entry))) (now (circuit .entry)) r (now (circuit .exit)) ⌝ }
+    ensures { λ r. ⌜ BoundsOf (rows n e (now (times .entry)) (now (from .entry)) (now (to .entry)) (now (mark .entry)) (now (buffers .entry)))
+        (now (circuit .entry)) r (now (circuit .exit)) ⌝ }
 {
     let mut marking = [0u8; PLACES];
     start_marking(n, e, mark, &mut marking);
@@ -37,7 +38,18 @@ pub fn measure<'a>(
     transition_times(n, times, &mut lasts);
     let mut d = [0u64; TRANSITIONS];
     let most = largest(n, e, from, to, &marking, &lasts, &mut d);
-    let length = choose(n, e, from, to, &marking, &lasts, most.num, most.den, &d, circuit);
+    let length = choose(
+        n,
+        e,
+        from,
+        to,
+        &marking,
+        &lasts,
+        most.num,
+        most.den,
+        &d,
+        circuit,
+    );
     let sums = path_sums(n, e, times, from, to, mark, buffers);
     let tbo = reduce(most.num, most.den);
     Measures {

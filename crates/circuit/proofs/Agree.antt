@@ -93,11 +93,16 @@ module _ {g : Loaded} {a b : ℕ} {d head next src dst : List ℕ} (l : Listing 
   pub headed : length head ≡ mostTransitions → Headed (g .net .transitions) (g .net .places) head src dst
   headed o = record { heads = λ v h. next-drawn (l .heads v h); low = l .low; long = o }
 
-  pub threaded : Proper (g .net) → g .net .transitions ≤ mostTransitions → g .net .places ≤ mostPlaces → ((p : ℕ) → p < g .net .places → g .net .src p ≢ g .net .dst p) → Threaded (g .net .transitions) (g .net .places) next src dst
+  pub threaded :
+      Proper (g .net) → g .net .transitions ≤ mostTransitions → g .net .places ≤ mostPlaces → ((p : ℕ) → p < g .net .places → g .net .src p ≢ g .net .dst p)
+      → Threaded (g .net .transitions) (g .net .places) next src dst
   threaded ok few many far = record {
     few = few;
     many = many;
-    nexts = λ q h t. subst (λ (v : ℕ). Next (drawn (g .net .transitions) (g .net .places) src dst) (Listed dst) v (q + 1) (at next q)) (sym (onto .leaves q h t)) (next-drawn (l .nexts q (omega arith) h (onto .fits q h t)));
+    nexts = λ q h t. subst
+        (λ (v : ℕ). Next (drawn (g .net .transitions) (g .net .places) src dst) (Listed dst) v (q + 1) (at next q))
+        (sym (onto .leaves q h t))
+        (next-drawn (l .nexts q (omega arith) h (onto .fits q h t)));
     leaves = λ q h t. omega (arith, onto .leaves q h t, ok .src-in q h);
     enters = λ q h t. omega (arith, onto .enters q h t, ok .dst-in q h);
     apart = λ q h t e. far q h (sym (onto .leaves q h t) ∙ e ∙ onto .enters q h t);

@@ -28,7 +28,9 @@ module _ {g : Net} {T : ℕ → Type 0} where
     simple = x .simple;
   }
 
-module _ (g : Net) (m time : ℕ → ℕ) (a b : ℕ) (D : ℕ → ℕ) (cert : Certifies g m time a b D) {r : ℕ} (below : (p : ℕ) → p < r → Tight g m time a b D p → Cut g (Tight g m time a b D) (g .dst p) (g .src p)) where
+module _
+    (g : Net) (m time : ℕ → ℕ) (a b : ℕ) (D : ℕ → ℕ) (cert : Certifies g m time a b D) {r : ℕ}
+    (below : (p : ℕ) → p < r → Tight g m time a b D p → Cut g (Tight g m time a b D) (g .dst p) (g .src p)) where
   -- Where a circuit attains there is one to choose.
   pub some-place : Largest g m time a b → r < g .places
   some-place x = at (x .ring) (x .circuit) (x .attains) (decLt r (g .places))

@@ -19,7 +19,9 @@ use Rattle.circuit.specs.Chosen.{Handed}
 use Rattle.circuit.proofs.Agree.{cut-move, ends-apart, first-move, headed, into, onto, threaded}
 use Rattle.circuit.proofs.Choice.{chosen-way, some-place}
 
-module _ {g : Loaded} {a b : ℕ} {d head next src dst : List ℕ} (l : Listing g a b d 0 head next src dst) (x : LargestBy g a b d) {via : List ℕ} {r : ℕ} (o : LowestBack (g .net .transitions) (g .net .places) src dst via r) where
+module _
+    {g : Loaded} {a b : ℕ} {d head next src dst : List ℕ} (l : Listing g a b d 0 head next src dst) (x : LargestBy g a b d) {via : List ℕ} {r : ℕ}
+    (o : LowestBack (g .net .transitions) (g .net .places) src dst via r) where
   -- Below r no tight place has a way back,
   below : (p : ℕ) → p < r → TightIn g a b d p → Cut (g .net) (TightIn g a b d) (g .net .dst p) (g .net .src p)
   below p h t =

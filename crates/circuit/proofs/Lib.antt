@@ -1,4 +1,5 @@
 pub mod Climbs
+pub mod Fills
 pub mod Agree
 pub mod Choice
 pub mod Unique

@@ -31,7 +31,8 @@ pub fn choose(
     requires { ⌜ Weighted n e (now from) (now to) (now marking) (now times) ⌝ }
     requires { ⌜ LargestBy (loaded n e (now from) (now to) (now marking) (now times)) a b (now d) ⌝ }
     requires { ⌜ 3 * n + 2 ≤ length (now ring) ⌝ }
-    ensures { λ k. ⌜ Handed (netOf (wires n e (now (from .entry)) (now (to .entry)))) (at (now (marking .entry))) (at (now (times .entry))) a b (now (ring .entry)) k (now (ring .exit)) ⌝ }
+    ensures { λ k. ⌜ Handed (netOf (wires n e (now (from .entry)) (now (to .entry)))) (at (now (marking .entry))) (at (now (times .entry))) a b
+        (now (ring .entry)) k (now (ring .exit)) ⌝ }
 {
     let nt = 3 * n + 2;
     let np = 3 * n + 2 * e;

@@ -217,11 +217,35 @@ pub fn order(
     let mut l = n + e;
     let mut c = 0;
     loop {
-        let s = pass(n, e, from, to, marking, false, l, c, &mut wait, &mut left, ord);
+        let s = pass(
+            n,
+            e,
+            from,
+            to,
+            marking,
+            false,
+            l,
+            c,
+            &mut wait,
+            &mut left,
+            ord,
+        );
         let kept = s.kept;
         c = s.put;
         if kept == l {
-            pass(n, e, from, to, marking, true, l, c, &mut wait, &mut left, ord);
+            pass(
+                n,
+                e,
+                from,
+                to,
+                marking,
+                true,
+                l,
+                c,
+                &mut wait,
+                &mut left,
+                ord,
+            );
             return;
         }
         l = kept;

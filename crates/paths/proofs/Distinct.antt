@@ -1,4 +1,5 @@
--- No path comes to a node twice: a repeat would be a circuit of unmarked edges, and its full, data read and data processed places a closed walk without a token. So a path's operations take no more than all of them.
+-- No path comes to a node twice: a repeat would be a circuit of unmarked edges, and its full, data read and data processed places a closed walk without a token. So a path's operations take
+-- no more than all of them.
 use mathlib.Core.Path.{_≡_, _∙_, ap, refl, subst, sym}
 use mathlib.Core.Logic.{_≢_}
 use mathlib.Core.List.{List, [], _∷_}
@@ -16,7 +17,7 @@ use Rattle.marked.proofs.Pigeonhole.{sum-distinct}
 use Rattle.net.specs.Plan.{Plan}
 use Rattle.net.specs.Ends.{readOf, writeOf}
 use Rattle.net.specs.Graph.{netOf, startOf}
-use Rattle.net.proofs.Shapes.{dst-full, dst-op, src-full, src-op, start-full, start-ring}
+use Rattle.net.proofs.Shapes.{dst-op, full-dst, full-src, full-start, src-op, start-ring}
 use Rattle.paths.specs.Modified.{Path, nodeTime, pathTime}
 use Rattle.paths.specs.Modified as modified
 use Rattle.paths.specs.Longest.{effort}
@@ -41,9 +42,6 @@ ClearTo g a v = v ≤ g .operations + 1 → Clear g a v
 module _ {g : Plan} (ok : Passing g) where
   -- An unmarked edge out of an operation: data read, data processed, full.
   module _ (e : ℕ) (h : e < g .edges) (k : g .mark e ≡ 0) (l : 1 ≤ g .from e) where
-    row : (3 * g .operations + 2 * e - 3 * g .operations) / 2 ≡ e
-    row = omega arith
-
     across : {b : ℕ} {ps : List ℕ} → Walk (netOf g) (readOf (g .to e)) b ps → Walk (netOf g) (readOf (g .from e)) b ((3 * g .from e - 3) ∷ (3 * g .from e - 2) ∷ (3 * g .operations + 2 * e) ∷ ps)
     across w =
         let n = g .operations in
@@ -53,7 +51,7 @@ module _ {g : Plan} (ok : Passing g) where
         let le : a ≤ n = ok .leaves e h in
         step (3 * a - 3) (omega arith) (src-op n f t (3 * a - 3) (omega arith) ∙ omega arith) (dst-op n f t (3 * a - 3) (omega arith) (λ j. omega arith))
         (step (3 * a - 2) (omega arith) (src-op n f t (3 * a - 2) (omega arith) ∙ omega arith) (dst-op n f t (3 * a - 2) (omega arith) (λ j. omega arith) ∙ omega arith)
-        (step (3 * n + 2 * e) (omega arith) (src-full n f t (3 * n + 2 * e) (omega arith) (omega arith) ∙ ap (λ (j : ℕ). writeOf (f j)) row) (dst-full n f t (3 * n + 2 * e) (omega arith) (omega arith) ∙ ap (λ (j : ℕ). readOf (t j)) row) w))
+        (step (3 * n + 2 * e) (omega arith) (full-src n f t e) (full-dst n f t e) w))
 
     across-none : (ps : List ℕ) → tokens (startOf g) ps ≡ 0 → tokens (startOf g) ((3 * g .from e - 3) ∷ (3 * g .from e - 2) ∷ (3 * g .operations + 2 * e) ∷ ps) ≡ 0
     unfolding sum
@@ -61,7 +59,9 @@ module _ {g : Plan} (ok : Passing g) where
         let n = g .operations in
         let a = g .from e in
         let le : a ≤ n = ok .leaves e h in
-        omega (arith, start-ring n (g .mark) (3 * a - 3) (omega arith) (λ j. omega arith), start-ring n (g .mark) (3 * a - 2) (omega arith) (λ j. omega arith), start-full n (g .mark) (3 * n + 2 * e) (omega arith) (omega arith) ∙ ap (g .mark) row, k)
+        let read = start-ring n (g .mark) (3 * a - 3) (omega arith) (λ j. omega arith) in
+        let processed = start-ring n (g .mark) (3 * a - 2) (omega arith) (λ j. omega arith) in
+        omega (arith, read, processed, full-start n (g .mark) e, k)
 
   -- From an operation a path comes to every node of the graph by a walk without a token.
   clears : {a b : ℕ} {ns : List ℕ} → Path g a b ns → 1 ≤ a → All (ClearTo g a) ns
@@ -69,7 +69,10 @@ module _ {g : Plan} (ok : Passing g) where
   clears modified.stop l = tt
   clears (modified.go {ns = ns} (modified.stays e h k) p) l = (
     λ i. record { ps = _; walk = across e h k l stop; some = omega arith; none = across-none e h k l [] (omega arith) },
-    all-map {P = ClearTo g (g .to e)} {Q = ClearTo g (g .from e)} (λ v r i. let c = r i in record { ps = _; walk = across e h k l (c .walk); some = omega arith; none = across-none e h k l (c .ps) (c .none) }) ns (clears p (ok .enters e h)),
+    all-map {P = ClearTo g (g .to e)} {Q = ClearTo g (g .from e)}
+        (λ v r i. let c = r i in record { ps = _; walk = across e h k l (c .walk); some = omega arith; none = across-none e h k l (c .ps) (c .none) })
+        ns
+        (clears p (ok .enters e h)),
   )
   clears (modified.go (modified.begins e h k) p) l = absurd (omega arith)
   clears (modified.go (modified.ends e h k) p) l = (λ i. absurd (omega arith), rw (sink-ends ok p (omega arith) .0) tt)

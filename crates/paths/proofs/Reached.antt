@@ -36,7 +36,8 @@ module _ {g : Plan} (ok : Passing g) where
         | no n ↦ anew e (i .inside) (omega arith)
         | yes z ↦ along e (i .inside) z (elim (ℕ-discrete (g .from e) 0) [
           | yes s ↦ subst⁻¹ (Reached g) s (record { nodes = []; path = stop })
-          | no n ↦ back k (g .from e) (v ∷ ns) (omega arith) (omega (arith, ok .leaves e (i .inside))) (go (subst (Link g (g .from e)) (i .there) (stays e (i .inside) z)) p) (omega arith, a) (omega arith)
+          | no n ↦ let onward = go (subst (Link g (g .from e)) (i .there) (stays e (i .inside) z)) p in
+              back k (g .from e) (v ∷ ns) (omega arith) (omega (arith, ok .leaves e (i .inside))) onward (omega arith, a) (omega arith)
         ])
       ])
 

@@ -38,7 +38,9 @@ module _ {n : ℕ} {from mark d : List ℕ} where
             (m .is);
       }
 
-module _ {n e : ℕ} {times from to mark buffers d : List ℕ} (ok : Passing (rows n e times from to mark buffers)) (f : Finished n e times from to mark buffers d) {r : ℕ} (l : Latest n from mark d e r) where
+module _
+    {n e : ℕ} {times from to mark buffers d : List ℕ} (ok : Passing (rows n e times from to mark buffers)) (f : Finished n e times from to mark buffers d) {r : ℕ}
+    (l : Latest n from mark d e r) where
   abbrev plan : Plan
   plan = rows n e times from to mark buffers
 

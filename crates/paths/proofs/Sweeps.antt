@@ -32,7 +32,9 @@ module _ {n e : ℕ} {times from to mark buffers : List ℕ} where
   swept-to i s = rw i at s
 
   -- One edge more.
-  pub swept-more : {a b d : List ℕ} {x y : Bool} {k : ℕ} → k < e → EdgesSwept n e times from to mark buffers k a b x → Lifted b (at to k) (doneBy n times from to mark b k) x d y → EdgesSwept n e times from to mark buffers (k + 1) a d y
+  pub swept-more :
+      {a b d : List ℕ} {x y : Bool} {k : ℕ} → k < e → EdgesSwept n e times from to mark buffers k a b x → Lifted b (at to k) (doneBy n times from to mark b k) x d y
+      → EdgesSwept n e times from to mark buffers (k + 1) a d y
   swept-more {b} {k} h s (lifted l) =
       let more = total-rises b (at to k) _ (inside (s .backed) h) l in
       record { backed = lifted-backed (s .backed) h; rises = omega (arith, s .rises); quiet = λ i. differ i; loud = λ i. omega (arith, s .rises) }

@@ -7,13 +7,15 @@ use Rattle.marked.specs.Sums.{sum}
 use Rattle.net.specs.Plan.{Plan}
 use Rattle.net.specs.Ends.{pick}
 
--- An edge of the modified graph. An unmarked edge stays. A marked one is removed: an edge from the source to its target, and an edge from its origin to its fresh sink, are added.
+-- An edge of the modified graph. An unmarked edge stays. A marked one is removed: an edge from the source to its target, and an edge from its origin
+-- to its fresh sink, are added.
 pub data Link (g : Plan) : ℕ → ℕ → Type 0 where
   stays : (e : ℕ) → e < g .edges → g .mark e ≡ 0 → Link g (g .from e) (g .to e)
   begins : (e : ℕ) → e < g .edges → 1 ≤ g .mark e → Link g 0 (g .to e)
   ends : (e : ℕ) → e < g .edges → 1 ≤ g .mark e → Link g (g .from e) (g .operations + 2 + e)
 
--- A path of the modified graph from one node to another, and the nodes that it comes to, in order. (In an accepted graph none comes to a node twice: law `path-distinct`.)
+-- A path of the modified graph from one node to another, and the nodes that it comes to, in order. (In an accepted graph none comes to a node twice:
+-- law `path-distinct`.)
 pub data Path (g : Plan) : ℕ → ℕ → List ℕ → Type 0 where
   stop : {a : ℕ} → Path g a a []
   go : {a b c : ℕ} {ns : List ℕ} → Link g a b → Path g b c ns → Path g a c (b ∷ ns)

@@ -7,9 +7,10 @@ ghost use Prim.Native.Nat.{_<_, _≤_};
 ghost use Rattle.marked.specs.Net.{at};
 ghost use Rattle.net.specs.Plan.{timeAt};
 ghost use Rattle.paths.specs.Modified.{nodeTime};
+ghost use Rattle.net.specs.Limits.{mostOperations};
 ghost use Rattle.net.specs.Good.{Good};
 ghost use Rattle.paths.specs.helpers.Answers.{Finished};
-ghost use Rattle.paths.specs.helpers.Finishing.{Backed, Lifted, AllDone, EdgesSwept, doneBy};
+ghost use Rattle.paths.specs.helpers.Finishing.{AllDone, Backed, EdgesSwept, Lifted, doneBy, mostNodes};
 
 // The number of a node, from a row.
 pub fn node(v: u8) -> usize
@@ -20,7 +21,7 @@ pub fn node(v: u8) -> usize
 
 // The time of node v: an operation's own, and none for the source and the sink.
 fn node_time(n: usize, times: &[u32; OPERATIONS], v: usize) -> u32
-    requires { ⌜ n ≤ 40 ⌝ }
+    requires { ⌜ n ≤ mostOperations ⌝ }
     ensures { λ r. ⌜ r ≡ nodeTime n (timeAt (now (times .entry))) v ⌝ }
 {
     if 0 < v {
@@ -34,7 +35,7 @@ fn node_time(n: usize, times: &[u32; OPERATIONS], v: usize) -> u32
 
 // Raises node v's entry to x where it is lower. The answer is whether an entry has changed, now or before.
 fn lift(finish: &mut [u32; NODES], v: usize, x: u32, changed: bool) -> bool
-    requires { ⌜ v < 42 ⌝ }
+    requires { ⌜ v < mostNodes ⌝ }
     ensures { λ r. ⌜ Lifted (now (finish .entry)) v x changed (now (finish .exit)) r ⌝ }
 {
     if finish[v] < x {
@@ -59,7 +60,9 @@ fn raise(
 ) -> bool
     requires { ⌜ Backed n e (now times) (now from) (now to) (now mark) (now buffers) (now finish) ⌝ }
     requires { ⌜ k < e ⌝ }
-    ensures { λ r. ⌜ Lifted (now (finish .entry)) (at (now (to .entry)) k) (doneBy n (now (times .entry)) (now (from .entry)) (now (to .entry)) (now (mark .entry)) (now (finish .entry)) k) changed (now (finish .exit)) r ⌝ }
+    ensures { λ r. ⌜ Lifted (now (finish .entry)) (at (now (to .entry)) k)
+        (doneBy n (now (times .entry)) (now (from .entry)) (now (to .entry)) (now (mark .entry)) (now (finish .entry)) k) changed
+        (now (finish .exit)) r ⌝ }
 {
     let b = node(to[k]);
     let own = node_time(n, times, b);
@@ -83,7 +86,8 @@ fn sweep(
     finish: &mut [u32; NODES],
 ) -> bool
     requires { ⌜ Backed n e (now times) (now from) (now to) (now mark) (now buffers) (now finish) ⌝ }
-    ensures { λ r. ⌜ EdgesSwept n e (now (times .entry)) (now (from .entry)) (now (to .entry)) (now (mark .entry)) (now (buffers .entry)) e (now (finish .entry)) (now (finish .exit)) r ⌝ }
+    ensures { λ r. ⌜ EdgesSwept n e (now (times .entry)) (now (from .entry)) (now (to .entry)) (now (mark .entry)) (now (buffers .entry)) e
+        (now (finish .entry)) (now (finish .exit)) r ⌝ }
 {
     let mut changed = false;
     let mut k = 0;

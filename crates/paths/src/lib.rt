@@ -9,6 +9,7 @@ ghost use Prim.Native.Nat.{ℕ, _+_, _<_, _≤_};
 ghost use Rattle.marked.specs.Sums.{upto};
 ghost use Rattle.marked.specs.Net.{at};
 ghost use Rattle.net.specs.Plan.{timeAt};
+ghost use Rattle.net.specs.Limits.{longestTime, mostEdges, mostOperations};
 ghost use Rattle.net.specs.Good.{Good};
 ghost use Rattle.paths.specs.helpers.Answers.{SumsOf};
 ghost use Rattle.paths.specs.helpers.Finishing.{Later, Latest};
@@ -37,7 +38,7 @@ fn later(most: u32, mark: u8, x: u32) -> u32
 
 // The last sink to be reached: the data sink, or the fresh sink behind the origin of a marked edge.
 fn latest(n: usize, e: usize, from: &[u8; EDGES], mark: &[u8; EDGES], finish: &[u32; NODES]) -> u32
-    requires { ⌜ (n ≤ 40) × (e ≤ 128) × ((k : ℕ) → k < e → at (now from) k ≤ n) ⌝ }
+    requires { ⌜ (n ≤ mostOperations) × (e ≤ mostEdges) × ((k : ℕ) → k < e → at (now from) k ≤ n) ⌝ }
     ensures { λ r. ⌜ Latest n (now (from .entry)) (now (mark .entry)) (now (finish .entry)) e r ⌝ }
 {
     let mut most = finish[n + 1];
@@ -52,7 +53,7 @@ fn latest(n: usize, e: usize, from: &[u8; EDGES], mark: &[u8; EDGES], finish: &[
 
 // The sum of all operation times.
 fn all_times(n: usize, times: &[u32; OPERATIONS]) -> u32
-    requires { ⌜ (n ≤ 40) × ((i : ℕ) → 1 ≤ i → i ≤ n → timeAt (now times) i ≤ 1000000) ⌝ }
+    requires { ⌜ (n ≤ mostOperations) × ((i : ℕ) → 1 ≤ i → i ≤ n → timeAt (now times) i ≤ longestTime) ⌝ }
     ensures { λ r. ⌜ r ≡ upto (λ (i : ℕ). timeAt (now (times .entry)) (i + 1)) n ⌝ }
 {
     let mut sum = 0;

@@ -1,3 +1,5 @@
 pub mod Trails
+pub mod Keeping
 pub mod Moves
 pub mod Turning
+pub mod Endings

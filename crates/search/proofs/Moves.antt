@@ -13,8 +13,9 @@ use Rattle.marked.proofs.Walks.{froms-append}
 use Rattle.tight.specs.helpers.Lists.{Next}
 use Rattle.search.specs.helpers.Ways.{FirstNoted, Search, Trace, Trail}
 use Rattle.search.specs.helpers.Ways.Trail.{here, on}
-use Rattle.search.specs.helpers.Ways.Trace.{start, step}
+use Rattle.search.specs.helpers.Ways.Trace.{step}
 use Rattle.search.proofs.Trails.{best-on, distinct-last, found, marked-last, new-to}
+use Rattle.search.proofs.Keeping.{trail-keep, trail-trace}
 
 -- B is A with v at i
 pub record Put (A B : ℕ → ℕ) (i v : ℕ) : Type 0 where
@@ -31,30 +32,6 @@ pub record Popped (g : Net) (T : ℕ → Type 0) (root goal : ℕ) (M N A : ℕ 
   pub search : Search g T root goal M N A (g .src place) rest
 
 module _ {g : Net} {T : ℕ → Type 0} {root goal : ℕ} where
-  -- the start
-  pub begin : {M N A : ℕ → ℕ} → M root ≢ 0 → ((v : ℕ) → v ≢ root → M v ≡ 0) → ((q : ℕ) → q < g .places → T q → g .src q < g .transitions) → ((v : ℕ) → v < g .transitions → Next g T v 0 (A v)) → ((v : ℕ) → A v ≤ g .places) → goal ≢ root → Search g T root goal M N A root []
-  begin {M} {N} {A} r m i z l f = record {
-    trail = here;
-    listed = λ v h k. (z v h .fits k .1, z v h .fits k .2);
-    tried = λ q h t k. absurd (z (g .src q) (i q h t) .none q (omega arith) k t refl);
-    dead = λ v n a d. absurd (n (m v d));
-    done = λ v k. absurd (omega (arith, l v));
-    free = m goal f;
-    begun = r;
-    stands = r;
-    marks = tt;
-    simple = (tt, tt);
-  }
-
-  -- what the trail rests on is kept
-  trail-keep : {M N M2 N2 : ℕ → ℕ} {x : ℕ} {ts : List ℕ} → ((v : ℕ) → M v ≢ 0 → M2 v ≢ 0) → ((v : ℕ) → M v ≢ 0 → N2 v ≡ N v) → Trail g T root goal M N x ts → Trail g T root goal M2 N2 x ts
-  trail-keep a b here = here
-  trail-keep a b (on q t h k e o m n) = on q (trail-keep a b t) h k e o (a (g .dst q) m) (b (g .dst q) m ∙ n)
-
-  trail-trace : {M N N2 : ℕ → ℕ} {x : ℕ} {ts : List ℕ} → ((v : ℕ) → M v ≢ 0 → N2 v ≡ N v) → Trail g T root goal M N x ts → Trace g T root goal N2 x ts
-  trail-trace b here = start
-  trail-trace {N2 = N2} b (on {ts = ts} q t h k e o m n) = let r : Trace g T root goal N2 (g .src q) ts = rw e (trail-trace b t) in step q r h k (b (g .dst q) m ∙ n)
-
   module _ {M N A : ℕ → ℕ} {x : ℕ} {ts : List ℕ} (s : Search g T root goal M N A x ts) where
     module _ {B : ℕ → ℕ} {q to : ℕ} (next : A x ≡ q) (put : Put A B x to) (after : Next g T x (q + 1) to) where
       tried-on : {M2 : ℕ → ℕ} → ((v : ℕ) → M v ≢ 0 → M2 v ≢ 0) → (T q → g .src q ≡ x → M2 (g .dst q) ≢ 0) → (p : ℕ) → p < g .places → T p → p < B (g .src p) → M2 (g .dst p) ≢ 0
@@ -152,7 +129,9 @@ module _ {g : Net} {T : ℕ → Type 0} {root goal : ℕ} where
               trace = subst (λ (z : ℕ). Trace g T root goal N2 z (ts ++ (q ∷ []))) e (step q r inside tight (pn .new));
             }
 
-  pub pop : {M N A B : ℕ → ℕ} {x : ℕ} {ts : List ℕ} → Trail g T root goal M N x ts → Search g T root goal M N A x ts → A x ≡ g .places → Put A B x (g .places + 1) → x ≢ root → Popped g T root goal M N B x ts
+  pub pop :
+      {M N A B : ℕ → ℕ} {x : ℕ} {ts : List ℕ} → Trail g T root goal M N x ts → Search g T root goal M N A x ts → A x ≡ g .places → Put A B x (g .places + 1) → x ≢ root
+      → Popped g T root goal M N B x ts
   pop here s e put f = absurd (f refl)
   pop {M} {N} {A} {B} (on {x = x} {ts = ts} q t h k l o m n) s e put f = record {
     place = q;
@@ -181,7 +160,10 @@ module _ {g : Net} {T : ℕ → Type 0} {root goal : ℕ} where
         where
           at : Dec (v ≡ g .dst q) → g .places ≤ B v
           at (yes z) = omega (arith, ap B z, put .new)
-          at (no z) = let c : Avoids v (froms g (ts ++ (q ∷ []))) = rw (froms-append g ts (q ∷ []), l) (all-append (λ (y : ℕ). v ≢ y) (froms g ts) (x ∷ []) a (d, tt)) in omega (arith, put .same v z, s .dead v n c z)
+          at (no z) =
+              let b = all-append (λ (y : ℕ). v ≢ y) (froms g ts) (x ∷ []) a (d, tt) in
+              let c : Avoids v (froms g (ts ++ (q ∷ []))) = rw (froms-append g ts (q ∷ []), l) b in
+              omega (arith, put .same v z, s .dead v n c z)
 
       off : (v : ℕ) → Avoids v (froms g (ts ++ (q ∷ []))) → Avoids v (x ∷ froms g ts)
       off v a =

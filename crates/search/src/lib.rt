@@ -34,7 +34,8 @@ fn turn(
 ) -> Move
     requires { ⌜ Threaded nt np (now next) (now src) (now dst) ⌝ }
     requires { ⌜ Under nt np (now src) (now dst) root goal (now seen) (now via) (now cur) x ⌝ }
-    ensures { λ r. ⌜ Turned nt np (now (src .entry)) (now (dst .entry)) root goal (now (cur .entry)) (now (seen .exit)) (now (via .exit)) (now (cur .exit)) r ⌝ }
+    ensures { λ r. ⌜ Turned nt np (now (src .entry)) (now (dst .entry)) root goal (now (cur .entry)) (now (seen .exit)) (now (via .exit))
+        (now (cur .exit)) r ⌝ }
 {
     let q = index(cur[x]);
     if q == np {

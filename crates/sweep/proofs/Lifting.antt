@@ -21,7 +21,9 @@ module _ {g : Net} {m time : ℕ → ℕ} {a b : ℕ} where
   lifts-up (more p x l) v = omega (arith, lifts-up x v, lift-up l v)
 
   -- How far k lifts can take the potentials.
-  pub lifts-bound : {D P E Q : ℕ → ℕ} {k : ℕ} (top step : ℕ) → ((p : ℕ) → p < g .places → b * time (g .src p) ≤ step) → ((v : ℕ) → D v ≤ top) → Lifts g m time a b D P k E Q → (v : ℕ) → E v ≤ top + k * step
+  pub lifts-bound :
+      {D P E Q : ℕ → ℕ} {k : ℕ} (top step : ℕ) → ((p : ℕ) → p < g .places → b * time (g .src p) ≤ step) → ((v : ℕ) → D v ≤ top) → Lifts g m time a b D P k E Q → (v : ℕ)
+      → E v ≤ top + k * step
   lifts-bound top step h t none v = omega (arith, t v)
   lifts-bound {E = E} top step h t (more {k = k} {E = F} p x l) v = at (ℕ-discrete v (g .dst p)) (lifts-bound top step h t x)
     where

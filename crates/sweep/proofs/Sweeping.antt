@@ -43,7 +43,9 @@ module _ {g : Net} {m time : ℕ → ℕ} {a b : ℕ} where
   pub swept-to : {S U : ℕ → Type 0} {k l x y : ℕ} {D P E Q : ℕ → ℕ} → ((p : ℕ) → U p → S p) → k ≤ l → SweptOver g m time a b S k D P E Q x y → SweptOver g m time a b U l D P E Q x y
   swept-to f h w = record { rises = w .rises; few = omega (arith, w .few); lifts = w .lifts; passed = λ p s. w .passed p (f p s); quiet = w .quiet; loud = w .loud }
 
-  pub swept-then : {S U W : ℕ → Type 0} {k l x y z : ℕ} {D P E Q F R : ℕ → ℕ} → ((p : ℕ) → W p → S p ⊎ U p) → SweptOver g m time a b S k D P E Q x y → SweptOver g m time a b U l E Q F R y z → SweptOver g m time a b W (k + l) D P F R x z
+  pub swept-then :
+      {S U W : ℕ → Type 0} {k l x y z : ℕ} {D P E Q F R : ℕ → ℕ} → ((p : ℕ) → W p → S p ⊎ U p) → SweptOver g m time a b S k D P E Q x y → SweptOver g m time a b U l E Q F R y z
+      → SweptOver g m time a b W (k + l) D P F R x z
   swept-then {S} {U} {W} {x = x} {y = y} {z = z} {D} {P} {E} {Q} {F} {R} part f h = record {
     rises = f .rises + h .rises;
     few = omega (arith, f .few, h .few);

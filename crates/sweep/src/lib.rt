@@ -33,7 +33,8 @@ fn raise(
     requires { ⌜ (s < mostTransitions) × (t < mostTransitions) × (p < mostPlaces) ⌝ }
     requires { ⌜ (at (now times) s ≤ longestTime) × (at (now marking) p ≤ mostTokens) × Pair a b ⌝ }
     requires { ⌜ Room (3 * highest) (now d) (now pred) ⌝ }
-    ensures { λ r. ⌜ Raised s t p (b * at (now (times .entry)) s) (a * at (now (marking .entry)) p) (now (d .entry)) (now (pred .entry)) last (now (d .exit)) (now (pred .exit)) r ⌝ }
+    ensures { λ r. ⌜ Raised s t p (b * at (now (times .entry)) s) (a * at (now (marking .entry)) p) (now (d .entry))
+        (now (pred .entry)) last (now (d .exit)) (now (pred .exit)) r ⌝ }
 {
     let up = d[s] + weigh::gained(b, times[s]);
     let cost = weigh::paid(a, marking[p]);
@@ -63,7 +64,9 @@ fn raise_op(
     requires { ⌜ Weighted n e (now from) (now to) (now marking) (now times) ⌝ }
     requires { ⌜ (i < n) × Pair a b ⌝ }
     requires { ⌜ Room (2 * highest) (now d) (now pred) ⌝ }
-    ensures { λ r. ⌜ SweptArrays (loaded n e (now (from .entry)) (now (to .entry)) (now (marking .entry)) (now (times .entry))) a b (Between (3 * i) (3 * i + 3)) 3 (now (d .entry)) (now (pred .entry)) (now (d .exit)) (now (pred .exit)) last r ⌝ }
+    ensures { λ r. ⌜ SweptArrays (loaded n e (now (from .entry)) (now (to .entry)) (now (marking .entry)) (now (times .entry)))
+        a b (Between (3 * i) (3 * i + 3)) 3 (now (d .entry)) (now (pred .entry)) (now (d .exit))
+        (now (pred .exit)) last r ⌝ }
 {
     let p = 3 * i;
     let x = raise(marking, times, a, b, d, pred, p + 1, p + 2, p, last);
@@ -89,7 +92,9 @@ fn raise_edge(
     requires { ⌜ Weighted n e (now from) (now to) (now marking) (now times) ⌝ }
     requires { ⌜ (k < e) × Pair a b ⌝ }
     requires { ⌜ Room (2 * highest) (now d) (now pred) ⌝ }
-    ensures { λ r. ⌜ SweptArrays (loaded n e (now (from .entry)) (now (to .entry)) (now (marking .entry)) (now (times .entry))) a b (Between (3 * n + 2 * k) (3 * n + 2 * k + 2)) 2 (now (d .entry)) (now (pred .entry)) (now (d .exit)) (now (pred .exit)) last r ⌝ }
+    ensures { λ r. ⌜ SweptArrays (loaded n e (now (from .entry)) (now (to .entry)) (now (marking .entry)) (now (times .entry)))
+        a b (Between (3 * n + 2 * k) (3 * n + 2 * k + 2)) 2 (now (d .entry)) (now (pred .entry)) (now (d .exit))
+        (now (pred .exit)) last r ⌝ }
 {
     let p = 3 * n + 2 * k;
     let u = ends::write_of(from[k]);
@@ -116,10 +121,24 @@ fn raise_item(
     requires { ⌜ Weighted n e (now from) (now to) (now marking) (now times) ⌝ }
     requires { ⌜ Item n e x × Pair a b ⌝ }
     requires { ⌜ Room (2 * highest) (now d) (now pred) ⌝ }
-    ensures { λ r. ⌜ SweptArrays (loaded n e (now (from .entry)) (now (to .entry)) (now (marking .entry)) (now (times .entry))) a b (Of n x) 3 (now (d .entry)) (now (pred .entry)) (now (d .exit)) (now (pred .exit)) last r ⌝ }
+    ensures { λ r. ⌜ SweptArrays (loaded n e (now (from .entry)) (now (to .entry)) (now (marking .entry)) (now (times .entry)))
+        a b (Of n x) 3 (now (d .entry)) (now (pred .entry)) (now (d .exit)) (now (pred .exit)) last r ⌝ }
 {
     if x >= EDGES {
-        return raise_op(n, e, x - EDGES, from, to, marking, times, a, b, d, pred, last);
+        return raise_op(
+            n,
+            e,
+            x - EDGES,
+            from,
+            to,
+            marking,
+            times,
+            a,
+            b,
+            d,
+            pred,
+            last,
+        );
     }
     raise_edge(n, e, x, from, to, marking, times, a, b, d, pred, last)
 }
@@ -141,7 +160,9 @@ pub fn sweep(
     requires { ⌜ Weighted n e (now from) (now to) (now marking) (now times) ⌝ }
     requires { ⌜ Ordered n e (now ord) × Pair a b ⌝ }
     requires { ⌜ Room highest (now d) (now pred) ⌝ }
-    ensures { λ r. ⌜ SweptArrays (loaded n e (now (from .entry)) (now (to .entry)) (now (marking .entry)) (now (times .entry))) a b (Every (3 * n + 2 * e)) (3 * (n + e)) (now (d .entry)) (now (pred .entry)) (now (d .exit)) (now (pred .exit)) mostTransitions r ⌝ }
+    ensures { λ r. ⌜ SweptArrays (loaded n e (now (from .entry)) (now (to .entry)) (now (marking .entry)) (now (times .entry)))
+        a b (Every (3 * n + 2 * e)) (3 * (n + e)) (now (d .entry)) (now (pred .entry)) (now (d .exit))
+        (now (pred .exit)) mostTransitions r ⌝ }
 {
     let mut last = NONE;
     let mut j = 0;

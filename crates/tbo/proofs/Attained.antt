@@ -76,8 +76,8 @@ module _ {g : Net} {m time : ℕ → ℕ} (live : Live g m) (short : (p : ℕ) �
 pub ring-tour :
     {n e i : ℕ} {from to marking times : List ℕ} → Weighted n e from to marking times → i < n
     → Tour (netOf (wires n e from to)) (at marking) (at times)
-        (at times (3 * i + 1) + at times (3 * i + 2) + at times (3 * i + 3))
-        (at marking (3 * i) + at marking (3 * i + 1) + at marking (3 * i + 2))
+    (at times (3 * i + 1) + at times (3 * i + 2) + at times (3 * i + 3))
+    (at marking (3 * i) + at marking (3 * i + 1) + at marking (3 * i + 2))
 unfolding sum
 ring-tour {i = i} {times = times} o h =
     let runs = row-runs o h in

@@ -24,7 +24,9 @@ pub record Running (g : Net) (m time : ℕ → ℕ) (a b : ℕ) (C D P : ℕ →
 pub running-start : {g : Net} {m time : ℕ → ℕ} {a b : ℕ} {C P : ℕ → ℕ} → ((v : ℕ) → P v ≡ 0) → Running g m time a b C C P 0
 running-start z = record { sweeps = begun; steady = steady-start z; few = omega arith }
 
-module _ {g : Net} {m time : ℕ → ℕ} {a b : ℕ} {C D P E Q : ℕ → ℕ} {k y most : ℕ} (r : Running g m time a b C D P k) (s : SweptOver g m time a b (Every (g .places)) most D P E Q mostTransitions y) where
+module _
+    {g : Net} {m time : ℕ → ℕ} {a b : ℕ} {C D P E Q : ℕ → ℕ} {k y most : ℕ} (r : Running g m time a b C D P k)
+    (s : SweptOver g m time a b (Every (g .places)) most D P E Q mostTransitions y) where
   -- no rise: a certificate
   pub certify : y ≡ mostTransitions → Certifies g m time a b E
   certify e = λ p h. omega (arith, s .passed p h, s .quiet e .1 (g .src p))

@@ -13,7 +13,8 @@ use Rattle.sweep.specs.helpers.Raises.{Lift, Lifts, Noted}
 use Rattle.sweep.specs.helpers.Raises.Lifts.{more, none}
 use Rattle.sweep.proofs.Lifting.{lift-up}
 
--- What holds of potentials D and notes P that were raised from C and from no notes: notes name places, noted places are tight or better, and closed walks of noted places have more time per token than a / b.
+-- What holds of potentials D and notes P that were raised from C and from no notes: notes name places, noted places are tight or better, and closed walks of noted places have more time per
+-- token than a / b.
 pub record Steady (g : Net) (m time : ℕ → ℕ) (a b : ℕ) (C D P : ℕ → ℕ) : Type 0 where
   pub rises : (v : ℕ) → C v ≤ D v
   pub inside : (v p : ℕ) → P v ≡ p + 1 → p < g .places

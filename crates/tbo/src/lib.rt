@@ -77,7 +77,8 @@ pub fn largest(
 ) -> Ratio
     requires { ⌜ Weighted n e (now from) (now to) (now marking) (now times) ⌝ }
     requires { ⌜ Live (netOf (wires n e (now from) (now to))) (at (now marking)) ⌝ }
-    ensures { λ r. ⌜ LargestBy (loaded n e (now (from .entry)) (now (to .entry)) (now (marking .entry)) (now (times .entry))) (r .num) (r .den) (now (d .exit)) ⌝ }
+    ensures { λ r. ⌜ LargestBy (loaded n e (now (from .entry)) (now (to .entry)) (now (marking .entry)) (now (times .entry))) (r .num) (r .den)
+        (now (d .exit)) ⌝ }
 {
     let mut ord = [0u8; ITEMS];
     order::order(n, e, from, to, marking, &mut ord);

@@ -15,7 +15,8 @@ ghost use Rattle.net.specs.Good.{Wired};
 ghost use Rattle.fraction.specs.helpers.Loaded.{Weighted};
 ghost use Rattle.tbo.specs.helpers.Chains.{Notes, Round, Turns, back};
 
-// As many steps back from v as there are transitions, each to the source of the place noted there; where none is, it stays. Whoever is on a ring of notes by then stays on it.
+// As many steps back from v as there are transitions, each to the source of the place noted there; where none is, it stays. Whoever is on a ring of
+// notes by then stays on it.
 pub fn follow(
     n: usize,
     e: usize,
@@ -61,7 +62,8 @@ pub fn go_round(
 ) -> Ring
     requires { ⌜ Weighted n e (now from) (now to) (now marking) (now times) ⌝ }
     requires { ⌜ Turns (netOf (wires n e (now from) (now to))) (at (now pred)) w ⌝ }
-    ensures { λ r. ⌜ Round (netOf (wires n e (now (from .entry)) (now (to .entry)))) (at (now (marking .entry))) (at (now (times .entry))) (at (now (pred .entry))) w (r .time) (r .tokens) ⌝ }
+    ensures { λ r. ⌜ Round (netOf (wires n e (now (from .entry)) (now (to .entry)))) (at (now (marking .entry))) (at (now (times .entry)))
+        (at (now (pred .entry))) w (r .time) (r .tokens) ⌝ }
 {
     let mut x = w;
     let mut time: u64 = 0;

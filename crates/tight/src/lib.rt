@@ -31,7 +31,9 @@ fn list_place(
     requires { ⌜ (s < mostTransitions) × (t < mostTransitions) × (p < mostPlaces) ⌝ }
     requires { ⌜ (at (now times) s ≤ longestTime) × (at (now marking) p ≤ mostTokens) × Pair a b × ((v : ℕ) → at (now d) v ≤ highest) ⌝ }
     requires { ⌜ Whole (now head) (now next) (now src) (now dst) ⌝ }
-    ensures { λ _. ⌜ Drawn s t p (b * at (now (times .entry)) s) (a * at (now (marking .entry)) p) (now (d .entry)) (now (head .entry)) (now (next .entry)) (now (src .entry)) (now (dst .entry)) (now (head .exit)) (now (next .exit)) (now (src .exit)) (now (dst .exit)) ⌝ }
+    ensures { λ _. ⌜ Drawn s t p (b * at (now (times .entry)) s) (a * at (now (marking .entry)) p) (now (d .entry)) (now (head .entry))
+        (now (next .entry)) (now (src .entry)) (now (dst .entry)) (now (head .exit)) (now (next .exit)) (now (src .exit))
+        (now (dst .exit)) ⌝ }
 {
     let up = d[s] + weigh::gained(b, times[s]);
     let cost = weigh::paid(a, marking[p]);
@@ -64,12 +66,53 @@ fn list_op(
     requires { ⌜ Weighted n e (now from) (now to) (now marking) (now times) ⌝ }
     requires { ⌜ (i < n) × Pair a b × ((v : ℕ) → at (now d) v ≤ highest) ⌝ }
     requires { ⌜ Whole (now head) (now next) (now src) (now dst) ⌝ }
-    ensures { λ _. ⌜ Lengthened (loaded n e (now (from .entry)) (now (to .entry)) (now (marking .entry)) (now (times .entry))) a b (now (d .entry)) (3 * i + 3) (3 * i) (now (head .entry)) (now (next .entry)) (now (src .entry)) (now (dst .entry)) (now (head .exit)) (now (next .exit)) (now (src .exit)) (now (dst .exit)) ⌝ }
+    ensures { λ _. ⌜ Lengthened (loaded n e (now (from .entry)) (now (to .entry)) (now (marking .entry)) (now (times .entry))) a b
+        (now (d .entry)) (3 * i + 3) (3 * i) (now (head .entry)) (now (next .entry)) (now (src .entry)) (now (dst .entry))
+        (now (head .exit)) (now (next .exit)) (now (src .exit)) (now (dst .exit)) ⌝ }
 {
     let p = 3 * i;
-    list_place(marking, times, a, b, d, p + 3, p + 1, p + 2, head, next, src, dst);
-    list_place(marking, times, a, b, d, p + 2, p + 3, p + 1, head, next, src, dst);
-    list_place(marking, times, a, b, d, p + 1, p + 2, p, head, next, src, dst)
+    list_place(
+        marking,
+        times,
+        a,
+        b,
+        d,
+        p + 3,
+        p + 1,
+        p + 2,
+        head,
+        next,
+        src,
+        dst,
+    );
+    list_place(
+        marking,
+        times,
+        a,
+        b,
+        d,
+        p + 2,
+        p + 3,
+        p + 1,
+        head,
+        next,
+        src,
+        dst,
+    );
+    list_place(
+        marking,
+        times,
+        a,
+        b,
+        d,
+        p + 1,
+        p + 2,
+        p,
+        head,
+        next,
+        src,
+        dst,
+    )
 }
 
 // The two places of edge k, the last first.
@@ -92,7 +135,9 @@ fn list_edge(
     requires { ⌜ Weighted n e (now from) (now to) (now marking) (now times) ⌝ }
     requires { ⌜ (k < e) × Pair a b × ((v : ℕ) → at (now d) v ≤ highest) ⌝ }
     requires { ⌜ Whole (now head) (now next) (now src) (now dst) ⌝ }
-    ensures { λ _. ⌜ Lengthened (loaded n e (now (from .entry)) (now (to .entry)) (now (marking .entry)) (now (times .entry))) a b (now (d .entry)) (3 * n + 2 * k + 2) (3 * n + 2 * k) (now (head .entry)) (now (next .entry)) (now (src .entry)) (now (dst .entry)) (now (head .exit)) (now (next .exit)) (now (src .exit)) (now (dst .exit)) ⌝ }
+    ensures { λ _. ⌜ Lengthened (loaded n e (now (from .entry)) (now (to .entry)) (now (marking .entry)) (now (times .entry))) a b
+        (now (d .entry)) (3 * n + 2 * k + 2) (3 * n + 2 * k) (now (head .entry)) (now (next .entry)) (now (src .entry))
+        (now (dst .entry)) (now (head .exit)) (now (next .exit)) (now (src .exit)) (now (dst .exit)) ⌝ }
 {
     let p = 3 * n + 2 * k;
     let u = ends::write_of(from[k]);
@@ -120,12 +165,29 @@ fn list_ops(
     requires { ⌜ Weighted n e (now from) (now to) (now marking) (now times) ⌝ }
     requires { ⌜ Pair a b × ((v : ℕ) → at (now d) v ≤ highest) ⌝ }
     requires { ⌜ Whole (now head) (now next) (now src) (now dst) ⌝ }
-    ensures { λ _. ⌜ Lengthened (loaded n e (now (from .entry)) (now (to .entry)) (now (marking .entry)) (now (times .entry))) a b (now (d .entry)) (3 * n) 0 (now (head .entry)) (now (next .entry)) (now (src .entry)) (now (dst .entry)) (now (head .exit)) (now (next .exit)) (now (src .exit)) (now (dst .exit)) ⌝ }
+    ensures { λ _. ⌜ Lengthened (loaded n e (now (from .entry)) (now (to .entry)) (now (marking .entry)) (now (times .entry))) a b
+        (now (d .entry)) (3 * n) 0 (now (head .entry)) (now (next .entry)) (now (src .entry)) (now (dst .entry))
+        (now (head .exit)) (now (next .exit)) (now (src .exit)) (now (dst .exit)) ⌝ }
 {
     let mut i = n;
     while i > 0 {
         i -= 1;
-        list_op(n, e, i, from, to, marking, times, a, b, d, head, next, src, dst);
+        list_op(
+            n,
+            e,
+            i,
+            from,
+            to,
+            marking,
+            times,
+            a,
+            b,
+            d,
+            head,
+            next,
+            src,
+            dst,
+        );
     }
 }
 
@@ -148,12 +210,29 @@ fn list_edges(
     requires { ⌜ Weighted n e (now from) (now to) (now marking) (now times) ⌝ }
     requires { ⌜ Pair a b × ((v : ℕ) → at (now d) v ≤ highest) ⌝ }
     requires { ⌜ Whole (now head) (now next) (now src) (now dst) ⌝ }
-    ensures { λ _. ⌜ Lengthened (loaded n e (now (from .entry)) (now (to .entry)) (now (marking .entry)) (now (times .entry))) a b (now (d .entry)) (3 * n + 2 * e) (3 * n) (now (head .entry)) (now (next .entry)) (now (src .entry)) (now (dst .entry)) (now (head .exit)) (now (next .exit)) (now (src .exit)) (now (dst .exit)) ⌝ }
+    ensures { λ _. ⌜ Lengthened (loaded n e (now (from .entry)) (now (to .entry)) (now (marking .entry)) (now (times .entry))) a b
+        (now (d .entry)) (3 * n + 2 * e) (3 * n) (now (head .entry)) (now (next .entry)) (now (src .entry)) (now (dst .entry))
+        (now (head .exit)) (now (next .exit)) (now (src .exit)) (now (dst .exit)) ⌝ }
 {
     let mut k = e;
     while k > 0 {
         k -= 1;
-        list_edge(n, e, k, from, to, marking, times, a, b, d, head, next, src, dst);
+        list_edge(
+            n,
+            e,
+            k,
+            from,
+            to,
+            marking,
+            times,
+            a,
+            b,
+            d,
+            head,
+            next,
+            src,
+            dst,
+        );
     }
 }
 
@@ -176,8 +255,38 @@ pub fn list_tight(
     requires { ⌜ Weighted n e (now from) (now to) (now marking) (now times) ⌝ }
     requires { ⌜ Pair a b × ((v : ℕ) → at (now d) v ≤ highest) ⌝ }
     requires { ⌜ Whole (now head) (now next) (now src) (now dst) ⌝ }
-    ensures { λ _. ⌜ Lengthened (loaded n e (now (from .entry)) (now (to .entry)) (now (marking .entry)) (now (times .entry))) a b (now (d .entry)) (3 * n + 2 * e) 0 (now (head .entry)) (now (next .entry)) (now (src .entry)) (now (dst .entry)) (now (head .exit)) (now (next .exit)) (now (src .exit)) (now (dst .exit)) ⌝ }
+    ensures { λ _. ⌜ Lengthened (loaded n e (now (from .entry)) (now (to .entry)) (now (marking .entry)) (now (times .entry))) a b
+        (now (d .entry)) (3 * n + 2 * e) 0 (now (head .entry)) (now (next .entry)) (now (src .entry)) (now (dst .entry))
+        (now (head .exit)) (now (next .exit)) (now (src .exit)) (now (dst .exit)) ⌝ }
 {
-    list_edges(n, e, from, to, marking, times, a, b, d, head, next, src, dst);
-    list_ops(n, e, from, to, marking, times, a, b, d, head, next, src, dst)
+    list_edges(
+        n,
+        e,
+        from,
+        to,
+        marking,
+        times,
+        a,
+        b,
+        d,
+        head,
+        next,
+        src,
+        dst,
+    );
+    list_ops(
+        n,
+        e,
+        from,
+        to,
+        marking,
+        times,
+        a,
+        b,
+        d,
+        head,
+        next,
+        src,
+        dst,
+    )
 }

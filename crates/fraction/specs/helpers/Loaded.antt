@@ -1,4 +1,5 @@
--- The computational graph as the code is lent it: the rows of the edges, the tokens of each place and the time of each transition. What is asked of them, and of a fraction of time per token.
+-- The computational graph as the code is lent it: the rows of the edges, the tokens of each place and the time of each transition. What is asked of
+-- them, and of a fraction of time per token.
 use mathlib.Core.List.{List}
 use Prim.Native.Nat.{_*_, _+_, _<_, _≤_, ℕ}
 use Rattle.marked.specs.Net.{Net, at}

@@ -44,17 +44,20 @@ element-write-wait : tie.Need-element-write-wait Inv-loop μ-loop
 element-write-wait c = omega (arith, c .before .before .goal .ensures)
 
 add-i : tie.Need-add-i Inv-loop μ-loop
-add-i c = omega (arith, c .before .before .before .before .before .before .before .pre .0 .operations, c .before .before .before .before .before .before .before .pre .0 .edges)
+add-i c =
+    let at-loop-test = c .before .before .before .before .before in
+    let start = at-loop-test .before .before in
+    omega (arith, start .pre .0 .operations, start .pre .0 .edges)
 
 loop-less : tie.Need-loop-less Inv-loop μ-loop
 loop-less c = omega arith
 
 loop-again : tie.Need-loop-again Inv-loop μ-loop
 loop-again c =
-    let start = c .before .before .before .before .before .before .before in
-    let turn = c .before .before .before .before .before .before in
-    let item = c .before .before .before .before .item in
-    (omega arith, enlist-on (turn .loop .inv .1) (omega (arith, start .pre .0 .operations, start .pre .0 .edges)) (item .ensures))
+    let at-item = c .before .before .before .before in
+    let at-loop = at-item .before .before in
+    let start = at-loop .before in
+    (omega arith, enlist-on (at-loop .loop .inv .1) (omega (arith, start .pre .0 .operations, start .pre .0 .edges)) (at-item .item .ensures))
 
 returns : tie.Need-returns Inv-loop μ-loop
 returns c = record { each = λ j h. c .before .loop .inv .1 .each j (omega arith); long = c .before .loop .inv .1 .long }

@@ -22,14 +22,18 @@ loop-holds : tie.Need-loop-holds Inv-loop μ-loop
 loop-holds c = sort-start (c .before .before .before .pre .0 .edges) (c .enlist .ensures) (c .before .before .before .pre .1)
 
 pass-requires : tie.Need-pass-requires Inv-loop μ-loop
-pass-requires c κs = (c .before .before .before .before .before .before .before .pre .0, c .before .before .before .loop .inv)
+pass-requires c κs =
+    let at-loop = c .before .before .before in
+    let start = at-loop .before .before .before .before in
+    (start .pre .0, at-loop .loop .inv)
 
 pass-requires-2 : tie.Need-pass-requires-2 Inv-loop μ-loop
 pass-requires-2 c κs =
-    let start = c .before .before .before .before .before .before .before .before .before .before .before .before in
-    let pass = c .before .before .before .before .pass in
-    let if1 = c .before .before .before .if1 in
-    (start .pre .0, sort-left (if1 .taken) (pass .ensures .sorting))
+    let at-if1 = c .before .before .before in
+    let at-pass = at-if1 .before in
+    let at-enlist = at-pass .before .before .before .before .before in
+    let start = at-enlist .before .before .before in
+    (start .pre .0, sort-left (at-if1 .if1 .taken) (at-pass .pass .ensures .sorting))
 
 returns : tie.Need-returns Inv-loop μ-loop
 returns c = sort-end (c .pass2 .ensures .sorting) (c .pass2 .ensures .forced refl)

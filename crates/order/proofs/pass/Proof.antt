@@ -22,9 +22,9 @@ take-requires c κs = (c .before .before .before .before .before .pre .0, (omega
 
 add-i : tie.Need-add-i Inv-loop μ-loop
 add-i c =
-    let start = c .before .before .before .before .before .before in
-    let turn = c .before .before .before .before .before in
-    omega (arith, start .pre .0 .operations, start .pre .0 .edges, turn .loop .inv .0 .most)
+    let at-loop = c .before .before .before .before .before in
+    let start = at-loop .before in
+    omega (arith, start .pre .0 .operations, start .pre .0 .edges, at-loop .loop .inv .0 .most)
 
 loop-less : tie.Need-loop-less Inv-loop μ-loop
 loop-less c = omega arith
@@ -34,7 +34,8 @@ loop-again c = (c .take .ensures .sorting, λ z. c .take .ensures .forced z ∙ 
 
 returns : tie.Need-returns Inv-loop μ-loop
 returns c =
-    record { sorting = sort-again (c .before .loop .inv .0) (omega (arith, c .before .loop .inv .0 .within)); fewer = omega (arith, c .before .loop .inv .0 .behind, c .before .loop .inv .0 .within); forced = c .before .loop .inv .1 }
+    let inv = c .before .loop .inv in
+    record { sorting = sort-again (inv .0) (omega (arith, inv .0 .within)); fewer = omega (arith, inv .0 .behind, inv .0 .within); forced = inv .1 }
 
 pub pass-spec : {M : Type 1} → statement M
 pass-spec =

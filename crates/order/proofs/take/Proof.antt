@@ -27,9 +27,10 @@ ready-requires c κs = search needs
 
 goal-requires : tie.Need-goal-requires
 goal-requires c κs =
-    let start = c .before .before .before .before .before .before in
-    let number = c .before .before .before .before .number in
-    (start .pre .0, subst (Item (start .args .n) (start .args .e)) (sym (number .ensures .0)) (sort-item (start .pre .1 .1) (start .pre .0 .operations) (start .pre .0 .edges) (start .pre .1 .0)))
+    let at-number = c .before .before .before .before in
+    let start = at-number .before .before in
+    let item = sort-item (start .pre .1 .1) (start .pre .0 .operations) (start .pre .0 .edges) (start .pre .1 .0) in
+    (start .pre .0, subst (Item (start .args .n) (start .args .e)) (sym (at-number .number .ensures .0)) item)
 
 element-copy-out-less : tie.Need-element-copy-out-less
 element-copy-out-less c = search needs
@@ -48,7 +49,8 @@ add-t32 c = search needs
 
 returns : tie.Need-returns
 returns c =
-    let start = c .before .before .before .before .before .before .before .before .before in
+    let at-ready-arg = c .before .before .before .before .before in
+    let start = at-ready-arg .before .before .before .before in
     record { sorting = sort-put (start .pre .1 .1) (start .pre .0 .operations) (start .pre .0 .edges) (start .pre .1 .0) refl; forced = λ z. refl }
 
 element-write-left : tie.Need-element-write-left
@@ -59,8 +61,12 @@ add-t21 c = search needs
 
 returns-2 : tie.Need-returns-2
 returns-2 c =
-    let start = c .before .before .before .before .before .before in
-    record { sorting = sort-kept (start .pre .1 .1) (start .pre .0 .operations) (start .pre .0 .edges) (start .pre .1 .0) refl; forced = λ z. absurd (true≢false (sym (c .before .ready .ensures z) ∙ c .if1 .left)) }
+    let at-ready = c .before in
+    let start = at-ready .before .before .before .before .before in
+    record {
+      sorting = sort-kept (start .pre .1 .1) (start .pre .0 .operations) (start .pre .0 .edges) (start .pre .1 .0) refl;
+      forced = λ z. absurd (true≢false (sym (at-ready .ready .ensures z) ∙ c .if1 .left));
+    }
 
 pub take-spec : {M : Type 1} → statement M
 take-spec =

@@ -2,6 +2,7 @@
 use Prim.Native.Nat.{_+_, _-_, _≤_, ℕ}
 use mathlib.Core.Path.{_≡_, _∙_, ap}
 use native.Mathlib.Omega.{arith}
+use Rattle.net.specs.Limits.{longestTime}
 use denote.Ref.{now}
 use Rattle.marked.specs.Sums.{upto}
 use Rattle.net.specs.Plan.{timeAt}
@@ -25,7 +26,11 @@ element-copy-out-sum : tie.Need-element-copy-out-sum Inv-loop μ-loop
 element-copy-out-sum c = omega arith
 
 add-sum : tie.Need-add-sum Inv-loop μ-loop
-add-sum c = let s = c .before .before .before in let i = c .before .before .loop .i in omega (arith, times-more (now (s .args .times)) i, times-most (timeAt (now (s .args .times))) 1000000 (i + 1) (λ j h k. s .pre .1 j h (omega arith)))
+add-sum c =
+    let s = c .before .before .before in
+    let i = c .before .before .loop .i in
+    let most = times-most (timeAt (now (s .args .times))) longestTime (i + 1) (λ j h k. s .pre .1 j h (omega arith)) in
+    omega (arith, times-more (now (s .args .times)) i, most)
 
 add-i : tie.Need-add-i Inv-loop μ-loop
 add-i c = omega arith

@@ -33,9 +33,9 @@ returns c =
     let at-finishes = at-latest .before .before in
     let start = at-finishes .before in
     record {
-    tbio = at-finishes .finishes .ensures .each (start .args .n + 1) (omega arith);
-    tt = latest-tt (good-passing (start .pre)) (at-finishes .finishes .ensures) (at-latest .latest .ensures);
-    tce = c .all-times .ensures;
+      tbio = at-finishes .finishes .ensures .each (start .args .n + 1) (omega arith);
+      tt = latest-tt (good-passing (start .pre)) (at-finishes .finishes .ensures) (at-latest .latest .ensures);
+      tce = c .all-times .ensures;
     }
 
 pub path-sums-spec : {M : Type 1} → statement M

@@ -30,7 +30,8 @@ pub record Backed (n e : ℕ) (times from to mark buffers finish : List ℕ) : T
   pub long : length finish ≡ mostNodes
   pub chains : (v : ℕ) → PathTo (rows n e times from to mark buffers) v (at finish v)
 
--- When the target of edge k can be done as far as this edge goes: its own time after the edge's data is there, which is at once if it is marked, else when its origin is done.
+-- When the target of edge k can be done as far as this edge goes: its own time after the edge's data is there, which is at once if it is marked, else
+-- when its origin is done.
 unfoldable pub doneBy : ℕ → List ℕ → List ℕ → List ℕ → List ℕ → List ℕ → ℕ → ℕ
 doneBy n times from to mark finish k = pick (eqb (at mark k) 0) (at finish (at from k)) 0 + nodeTime n (timeAt times) (at to k)
 

@@ -1,7 +1,7 @@
 -- The invariant: no listed place below p has a way back.
 use Prim.Native.Nat.{_-_}
 use native.Mathlib.Omega.{arith}
-use Rattle.search.proofs.Turning.{Missed, lowest-none, lowest-yes, missed-on, missed-start}
+use Rattle.search.proofs.Endings.{Missed, lowest-none, lowest-yes, missed-on, missed-start}
 use Rattle.search.proofs.first.Statement.{statement}
 use Rattle.search.proofs.first.Tie as tie
 

@@ -1,5 +1,5 @@
 -- A place that is not listed has no way back; else the search says.
-use Rattle.search.proofs.Turning.{tried-no, tried-yes}
+use Rattle.search.proofs.Endings.{tried-no, tried-yes}
 use borrow.Author.Needs.{needs}
 use Rattle.search.proofs.returns_to.Statement.{statement}
 use Rattle.search.proofs.returns_to.Tie as tie
@@ -11,7 +11,9 @@ returns : tie.Need-returns
 returns c = tried-no (c .if1 .taken) (c .before .before .pre .1 .1 .1)
 
 search-requires : tie.Need-search-requires
-search-requires c κs = (c .before .before .before .pre .0, (c .before .before .before .pre .1 .0, (c .before .before .before .pre .1 .1 .0, c .before .if1 .left, c .before .before .before .pre .1 .1 .1)))
+search-requires c κs =
+    let start = c .before .before .before in
+    (start .pre .0, (start .pre .1 .0, (start .pre .1 .1 .0, c .before .if1 .left, start .pre .1 .1 .1)))
 
 returns-2 : tie.Need-returns-2
 returns-2 c = tried-yes (c .before .before .if1 .left) (c .search .ensures)

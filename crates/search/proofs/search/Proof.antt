@@ -3,7 +3,7 @@ use mathlib.Core.Path.{_∙_, sym}
 use native.Mathlib.Omega.{arith}
 use borrow.Author.Needs.{needs}
 use Rattle.search.specs.helpers.Turns.{Under}
-use Rattle.search.proofs.Turning.{left, left-less, outcome-at, outcome-gone, outcome-got, sought-no, sought-yes, under-start}
+use Rattle.search.proofs.Endings.{left, left-less, outcome-at, outcome-gone, outcome-got, sought-no, sought-yes, under-start}
 use Rattle.search.proofs.search.Statement.{statement}
 use Rattle.search.proofs.search.Tie as tie
 
@@ -36,10 +36,15 @@ loop-holds c =
     let number = c .before .before .before .number in
     let enters = start .pre .0 .enters (start .args .p) (start .pre .1 .1 .0) (start .pre .1 .1 .1) in
     let apart = start .pre .0 .apart (start .args .p) (start .pre .1 .1 .0) (start .pre .1 .1 .1) in
-    under-start (start .pre .0) (start .pre .1 .0) (omega (arith, enters, c .before .number2 .ensures .0)) (λ z. apart (sym (number .ensures .0) ∙ z ∙ c .before .number2 .ensures .0)) (start .pre .1 .1 .2)
+    let root = c .before .number2 .ensures .0 in
+    under-start (start .pre .0) (start .pre .1 .0) (omega (arith, enters, root)) (λ z. apart (sym (number .ensures .0) ∙ z ∙ root)) (start .pre .1 .1 .2)
 
 turn-requires : tie.Need-turn-requires Inv-loop μ-loop
-turn-requires c κs = (c .before .before .before .before .before .before .before .before .before .pre .0, c .before .before .before .loop .inv)
+turn-requires c κs =
+    let at-loop = c .before .before .before in
+    let at-number-arg = at-loop .before .before .before .before .before in
+    let start = at-number-arg .before in
+    (start .pre .0, at-loop .loop .inv)
 
 enum-known-m : tie.Need-enum-known-m Inv-loop μ-loop
 enum-known-m c = search needs
@@ -55,20 +60,22 @@ enum-told c = search needs
 
 returns : tie.Need-returns Inv-loop μ-loop
 returns c =
-    let number = c .before .before .before .before .before .before .before .before .before .before .number in
-    let number2 = c .before .before .before .before .before .before .before .before .number2 in
-    let turn = c .before .before .turn in
-    sought-yes (number2 .ensures .0) (number .ensures .0) (outcome-got (turn .ensures .outcome) (c .enum-told .given .1))
+    let at-turn = c .before .before in
+    let at-cur = at-turn .before .before .before .before .before in
+    let at-number2 = at-cur .before in
+    let at-number = at-number2 .before .before in
+    sought-yes (at-number2 .number2 .ensures .0) (at-number .number .ensures .0) (outcome-got (at-turn .turn .ensures .outcome) (c .enum-told .given .1))
 
 enum-told-2 : tie.Need-enum-told-2 Inv-loop μ-loop
 enum-told-2 c = search needs
 
 returns-2 : tie.Need-returns-2 Inv-loop μ-loop
 returns-2 c =
-    let number = c .before .before .before .before .before .before .before .before .before .before .number in
-    let number2 = c .before .before .before .before .before .before .before .before .number2 in
-    let turn = c .before .before .turn in
-    sought-no (number2 .ensures .0) (number .ensures .0) (outcome-gone (turn .ensures .outcome) (c .enum-told2 .given .1))
+    let at-turn = c .before .before in
+    let at-cur = at-turn .before .before .before .before .before in
+    let at-number2 = at-cur .before in
+    let at-number = at-number2 .before .before in
+    sought-no (at-number2 .number2 .ensures .0) (at-number .number .ensures .0) (outcome-gone (at-turn .turn .ensures .outcome) (c .enum-told2 .given .1))
 
 pub search-spec : {M : Type 1} → statement M
 search-spec =

@@ -32,7 +32,10 @@ returns : tie.Need-returns
 returns c =
     let start = c .before .before .before .before in
     let index = c .before .before .index in
-    record { outcome = gone (no-way (start .pre .0) (start .pre .1) (index .ensures .0) (c .before .if1 .taken) (c .if2 .taken)) (start .pre .1 .deep); further = further (start .pre .0) (start .pre .1) (omega (arith, still (start .pre .0) (start .pre .1))) }
+    record {
+      outcome = gone (no-way (start .pre .0) (start .pre .1) (index .ensures .0) (c .before .if1 .taken) (c .if2 .taken)) (start .pre .1 .deep);
+      further = further (start .pre .0) (start .pre .1) (omega (arith, still (start .pre .0) (start .pre .1)));
+    }
 
 mul-index-2 : tie.Need-mul-index-2
 mul-index-2 c = omega (arith, stands (c .before .before .before .before .pre .0) (c .before .before .before .before .pre .1))
@@ -45,37 +48,40 @@ index-requires-2 c κs = search needs
 
 sub-p : tie.Need-sub-p
 sub-p c =
-    let start = c .before .before .before .before .before .before in
-    let index = c .before .before .before .before .index in
-    let if1 = c .before .before .before .if1 in
-    let if2 = c .before .before .if2 in
-    noted-place (start .pre .0) (start .pre .1) (index .ensures .0) (if1 .taken) (if2 .left) (c .index2 .ensures .0) .0
+    let at-if2 = c .before .before in
+    let at-if1 = at-if2 .before in
+    let at-index = at-if1 .before in
+    let start = at-index .before .before in
+    noted-place (start .pre .0) (start .pre .1) (at-index .index .ensures .0) (at-if1 .if1 .taken) (at-if2 .if2 .left) (c .index2 .ensures .0) .0
 
 element-copy-out-number : tie.Need-element-copy-out-number
 element-copy-out-number c =
-    let start = c .before .before .before .before .before .before in
-    let index = c .before .before .before .before .index in
-    let if1 = c .before .before .before .if1 in
-    let if2 = c .before .before .if2 in
-    omega (arith, noted-place (start .pre .0) (start .pre .1) (index .ensures .0) (if1 .taken) (if2 .left) (c .index2 .ensures .0) .1, start .pre .0 .many)
+    let at-if2 = c .before .before in
+    let at-if1 = at-if2 .before in
+    let at-index = at-if1 .before in
+    let start = at-index .before .before in
+    omega (arith, noted-place (start .pre .0) (start .pre .1) (at-index .index .ensures .0) (at-if1 .if1 .taken) (at-if2 .if2 .left) (c .index2 .ensures .0) .1, start .pre .0 .many)
 
 number-requires : tie.Need-number-requires
 number-requires c κs = search needs
 
 returns-2 : tie.Need-returns-2
 returns-2 c =
-    let start = c .before .before .before .before .before .before .before .before in
-    let index = c .before .before .before .before .before .before .index in
-    let if1 = c .before .before .before .before .before .if1 in
-    let if2 = c .before .before .before .before .if2 in
-    let index2 = c .before .before .index2 in
-    record { outcome = moved (step-back (start .pre .0) (start .pre .1) (index .ensures .0) (if1 .taken) (if2 .left) (index2 .ensures .0) (c .number .ensures .0)); further = further (start .pre .0) (start .pre .1) (omega (arith, still (start .pre .0) (start .pre .1))) }
+    let at-index2 = c .before .before in
+    let at-if2 = at-index2 .before .before in
+    let at-if1 = at-if2 .before in
+    let at-index = at-if1 .before in
+    let start = at-index .before .before in
+    let back = step-back (start .pre .0) (start .pre .1) (at-index .index .ensures .0) (at-if1 .if1 .taken) (at-if2 .if2 .left) (at-index2 .index2 .ensures .0) (c .number .ensures .0) in
+    record { outcome = moved back; further = further (start .pre .0) (start .pre .1) (omega (arith, still (start .pre .0) (start .pre .1))) }
 
 mul-cur-2 : tie.Need-mul-cur-2
 mul-cur-2 c = search needs
 
 element-copy-out-cur : tie.Need-element-copy-out-cur
-element-copy-out-cur c = omega (arith, less (c .before .before .before .pre .0) (c .before .before .before .pre .1) (c .before .index .ensures .0) (c .if1 .left), c .before .before .before .pre .0 .many)
+element-copy-out-cur c =
+    let start = c .before .before .before in
+    omega (arith, less (start .pre .0) (start .pre .1) (c .before .index .ensures .0) (c .if1 .left), start .pre .0 .many)
 
 mul-cur-3 : tie.Need-mul-cur-3
 mul-cur-3 c = omega (arith, stands (c .before .before .before .before .pre .0) (c .before .before .before .before .pre .1))
@@ -97,81 +103,89 @@ add-via c = search needs
 
 cast-via : tie.Need-cast-via
 cast-via c =
-    let start = c .before .before .before .before .before .before .before in
-    let index = c .before .before .before .before .before .index in
-    let if1 = c .before .before .before .before .if1 in
-    omega (arith, less (start .pre .0) (start .pre .1) (index .ensures .0) (if1 .left), start .pre .0 .many)
+    let at-if1 = c .before .before .before .before in
+    let at-index = at-if1 .before in
+    let start = at-index .before .before in
+    omega (arith, less (start .pre .0) (start .pre .1) (at-index .index .ensures .0) (at-if1 .if1 .left), start .pre .0 .many)
 
 mul-via : tie.Need-mul-via
 mul-via c = search needs
 
 element-write-via : tie.Need-element-write-via
 element-write-via c =
-    let start = c .before .before .before .before .before .before .before in
-    let index = c .before .before .before .before .before .index in
-    let if1 = c .before .before .before .before .if1 in
-    omega (arith, leads-in (start .pre .0) (start .pre .1) (index .ensures .0) (if1 .left) (c .before .number2 .ensures .0), start .pre .0 .few, start .pre .1 .deep)
+    let at-number2 = c .before in
+    let at-if1 = at-number2 .before .before .before in
+    let at-index = at-if1 .before in
+    let start = at-index .before .before in
+    omega (arith, leads-in (start .pre .0) (start .pre .1) (at-index .index .ensures .0) (at-if1 .if1 .left) (at-number2 .number2 .ensures .0), start .pre .0 .few, start .pre .1 .deep)
 
 returns-3 : tie.Need-returns-3
 returns-3 c =
-    let start = c .before .before .before .before .before .before .before in
-    let index = c .before .before .before .before .before .index in
-    let if1 = c .before .before .before .before .if1 in
-    let there = arrive (start .pre .0) (start .pre .1) (index .ensures .0) (if1 .left) (c .before .number2 .ensures .0) (c .if3 .taken) in
-    record { outcome = got (there .0) (there .1); further = further (start .pre .0) (start .pre .1) (beyond (start .pre .0) (start .pre .1) (index .ensures .0) (if1 .left)) }
+    let at-number2 = c .before in
+    let at-if1 = at-number2 .before .before .before in
+    let at-index = at-if1 .before in
+    let start = at-index .before .before in
+    let there = arrive (start .pre .0) (start .pre .1) (at-index .index .ensures .0) (at-if1 .if1 .left) (at-number2 .number2 .ensures .0) (c .if3 .taken) in
+    record { outcome = got (there .0) (there .1); further = further (start .pre .0) (start .pre .1) (beyond (start .pre .0) (start .pre .1) (at-index .index .ensures .0) (at-if1 .if1 .left)) }
 
 element-copy-out-if4 : tie.Need-element-copy-out-if4
 element-copy-out-if4 c =
-    let start = c .before .before .before .before .before .before .before in
-    let index = c .before .before .before .before .before .index in
-    let if1 = c .before .before .before .before .if1 in
-    omega (arith, leads-in (start .pre .0) (start .pre .1) (index .ensures .0) (if1 .left) (c .before .number2 .ensures .0), start .pre .0 .few, start .pre .1 .wide)
+    let at-number2 = c .before in
+    let at-if1 = at-number2 .before .before .before in
+    let at-index = at-if1 .before in
+    let start = at-index .before .before in
+    omega (arith, leads-in (start .pre .0) (start .pre .1) (at-index .index .ensures .0) (at-if1 .if1 .left) (at-number2 .number2 .ensures .0), start .pre .0 .few, start .pre .1 .wide)
 
 returns-4 : tie.Need-returns-4
 returns-4 c =
-    let start = c .before .before .before .before .before .before .before .before .before in
-    let index = c .before .before .before .before .before .before .before .index in
-    let if1 = c .before .before .before .before .before .before .if1 in
-    let number2 = c .before .before .before .number2 in
-    record { outcome = moved (pass (start .pre .0) (start .pre .1) (index .ensures .0) (if1 .left) (number2 .ensures .0) (c .if4 .taken)); further = further (start .pre .0) (start .pre .1) (beyond (start .pre .0) (start .pre .1) (index .ensures .0) (if1 .left)) }
+    let at-number2 = c .before .before .before in
+    let at-if1 = at-number2 .before .before .before in
+    let at-index = at-if1 .before in
+    let start = at-index .before .before in
+    let next = beyond (start .pre .0) (start .pre .1) (at-index .index .ensures .0) (at-if1 .if1 .left) in
+    let past = pass (start .pre .0) (start .pre .1) (at-index .index .ensures .0) (at-if1 .if1 .left) (at-number2 .number2 .ensures .0) (c .if4 .taken) in
+    record { outcome = moved past; further = further (start .pre .0) (start .pre .1) next }
 
 element-write-seen : tie.Need-element-write-seen
 element-write-seen c =
-    let start = c .before .before .before .before .before .before .before .before .before in
-    let index = c .before .before .before .before .before .before .before .index in
-    let if1 = c .before .before .before .before .before .before .if1 in
-    let number2 = c .before .before .before .number2 in
-    omega (arith, leads-in (start .pre .0) (start .pre .1) (index .ensures .0) (if1 .left) (number2 .ensures .0), start .pre .0 .few, start .pre .1 .wide)
+    let at-number2 = c .before .before .before in
+    let at-if1 = at-number2 .before .before .before in
+    let at-index = at-if1 .before in
+    let start = at-index .before .before in
+    omega (arith, leads-in (start .pre .0) (start .pre .1) (at-index .index .ensures .0) (at-if1 .if1 .left) (at-number2 .number2 .ensures .0), start .pre .0 .few, start .pre .1 .wide)
 
 add-via-2 : tie.Need-add-via-2
 add-via-2 c = search needs
 
 cast-via-2 : tie.Need-cast-via-2
 cast-via-2 c =
-    let start = c .before .before .before .before .before .before .before .before .before in
-    let index = c .before .before .before .before .before .before .before .index in
-    let if1 = c .before .before .before .before .before .before .if1 in
-    omega (arith, less (start .pre .0) (start .pre .1) (index .ensures .0) (if1 .left), start .pre .0 .many)
+    let at-cur = c .before .before .before .before .before in
+    let at-if1 = at-cur .before in
+    let at-index = at-if1 .before in
+    let start = at-index .before .before in
+    omega (arith, less (start .pre .0) (start .pre .1) (at-index .index .ensures .0) (at-if1 .if1 .left), start .pre .0 .many)
 
 mul-via-2 : tie.Need-mul-via-2
 mul-via-2 c = search needs
 
 element-write-via-2 : tie.Need-element-write-via-2
 element-write-via-2 c =
-    let start = c .before .before .before .before .before .before .before .before .before in
-    let index = c .before .before .before .before .before .before .before .index in
-    let if1 = c .before .before .before .before .before .before .if1 in
-    let number2 = c .before .before .before .number2 in
-    omega (arith, leads-in (start .pre .0) (start .pre .1) (index .ensures .0) (if1 .left) (number2 .ensures .0), start .pre .0 .few, start .pre .1 .deep)
+    let at-number2 = c .before .before .before in
+    let at-if1 = at-number2 .before .before .before in
+    let at-index = at-if1 .before in
+    let start = at-index .before .before in
+    omega (arith, leads-in (start .pre .0) (start .pre .1) (at-index .index .ensures .0) (at-if1 .if1 .left) (at-number2 .number2 .ensures .0), start .pre .0 .few, start .pre .1 .deep)
 
 returns-5 : tie.Need-returns-5
 returns-5 c =
-    let start = c .before .before .before .before .before .before .before .before .before in
-    let index = c .before .before .before .before .before .before .before .index in
-    let if1 = c .before .before .before .before .before .before .if1 in
-    let number2 = c .before .before .before .number2 in
-    let if3 = c .before .before .if3 in
-    record { outcome = moved (go-on (start .pre .0) (start .pre .1) (index .ensures .0) (if1 .left) (number2 .ensures .0) (c .if4 .left) (λ z. if3 .left (sym z))); further = further (start .pre .0) (start .pre .1) (beyond (start .pre .0) (start .pre .1) (index .ensures .0) (if1 .left)) }
+    let at-if3 = c .before .before in
+    let at-number2 = at-if3 .before in
+    let at-if1 = at-number2 .before .before .before in
+    let at-index = at-if1 .before in
+    let start = at-index .before .before in
+    let next = beyond (start .pre .0) (start .pre .1) (at-index .index .ensures .0) (at-if1 .if1 .left) in
+    let onward = go-on (start .pre .0) (start .pre .1) (at-index .index .ensures .0) (at-if1 .if1 .left) (at-number2 .number2 .ensures .0) (c .if4 .left) (λ z. at-if3 .if3 .left (sym z)) in
+    record { outcome = moved onward; further = further (start .pre .0) (start .pre .1) next }
 
 pub turn-spec : {M : Type 1} → statement M
 turn-spec =

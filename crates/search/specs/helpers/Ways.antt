@@ -22,7 +22,9 @@ module _ (g : Net) (T : ℕ → Type 0) (root goal : ℕ) where
   -- The way to x that the search is on: each of its places is noted in N, and its transitions are marked in M.
   pub data Trail (M N : ℕ → ℕ) : ℕ → List ℕ → Type 0 where
     here : Trail M N root []
-    on : {x : ℕ} {ts : List ℕ} (q : ℕ) → Trail M N x ts → q < g .places → T q → g .src q ≡ x → Best (ts ++ (q ∷ [])) → M (g .dst q) ≢ 0 → N (g .dst q) ≡ q + 1 → Trail M N (g .dst q) (ts ++ (q ∷ []))
+    on :
+        {x : ℕ} {ts : List ℕ} (q : ℕ) → Trail M N x ts → q < g .places → T q → g .src q ≡ x → Best (ts ++ (q ∷ [])) → M (g .dst q) ≢ 0
+        → N (g .dst q) ≡ q + 1 → Trail M N (g .dst q) (ts ++ (q ∷ []))
 
   -- The state of the search: x and ts, the marks M, the notes N, and the place that each transition tries next, A.
   pub record Search (M N A : ℕ → ℕ) (x : ℕ) (ts : List ℕ) : Type 0 where

@@ -30,7 +30,8 @@ pub data Lifts (g : Net) (m time : ℕ → ℕ) (a b : ℕ) (D P : ℕ → ℕ) 
 abbrev pub NoRise : Net → (ℕ → ℕ) → (ℕ → ℕ) → ℕ → ℕ → (ℕ → ℕ) → (ℕ → ℕ) → ℕ → Type 0
 NoRise g m time a b D E p = D (g .src p) + b * time (g .src p) ≤ E (g .dst p) + a * m p
 
--- The places of S were tried, with that many rises at most. x and y: the transition that rose last, before and after; the number of no transition where none did.
+-- The places of S were tried, with that many rises at most. x and y: the transition that rose last, before and after; the number of no transition
+-- where none did.
 pub record SweptOver (g : Net) (m time : ℕ → ℕ) (a b : ℕ) (S : ℕ → Type 0) (most : ℕ) (D P E Q : ℕ → ℕ) (x y : ℕ) : Type 0 where
   pub rises : ℕ
   pub few : rises ≤ most

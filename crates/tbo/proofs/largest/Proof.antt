@@ -53,13 +53,12 @@ improve-requires c κs =
     let at-clear = c .before .before in
     let at-loop = at-clear .before .before in
     let at-order = at-loop .before .before .before .before in
-    let start = at-order .before .before in
-    (
-    start .pre .0,
-    (
-    (at-order .order .ensures, pair-of (start .pre .0) (at-loop .loop .inv)),
-    record { low = λ v. omega (arith, at-clear .clear .ensures .low v); long = at-clear .clear .ensures .long }
-    )
+    let start = at-order .before .before in (
+      start .pre .0,
+      (
+        (at-order .order .ensures, pair-of (start .pre .0) (at-loop .loop .inv)),
+        record { low = λ v. omega (arith, at-clear .clear .ensures .low v); long = at-clear .clear .ensures .long },
+      ),
     )
 
 enum-told : tie.Need-enum-told Inv-loop μ-loop

@@ -29,10 +29,9 @@ choose-requires c κs =
     let at-largest = c .before .before .before .before in
     let at-transition-times = at-largest .before .before .before .before in
     let at-start-marking = at-transition-times .before .before .before in
-    let start = at-start-marking .before .before .before in
-    (
-    lent-weighted (start .pre .0) (at-start-marking .start-marking .ensures) (at-transition-times .transition-times .ensures),
-    (at-largest .largest .ensures, start .pre .1)
+    let start = at-start-marking .before .before .before in (
+      lent-weighted (start .pre .0) (at-start-marking .start-marking .ensures) (at-transition-times .transition-times .ensures),
+      (at-largest .largest .ensures, start .pre .1),
     )
 
 path-sums-requires : tie.Need-path-sums-requires

@@ -45,17 +45,17 @@ number-requires c κs = tt
 
 add-k : tie.Need-add-k Inv-loop μ-loop
 add-k c =
-    let start = c .before .before .before .before .before .before in
-    let turn = c .before .before .before .before .before in
-    let loop-test = c .before .before .before .before .loop-test in
-    omega (arith, climb-more (start .pre .0) (start .pre .1 .0 .0) (turn .loop .inv .0) (loop-test .taken), turn .loop .inv .1, start .pre .0 .few)
+    let at-loop-test = c .before .before .before .before in
+    let at-loop = at-loop-test .before in
+    let start = at-loop .before in
+    omega (arith, climb-more (start .pre .0) (start .pre .1 .0 .0) (at-loop .loop .inv .0) (at-loop-test .loop-test .taken), at-loop .loop .inv .1, start .pre .0 .few)
 
 loop-less : tie.Need-loop-less Inv-loop μ-loop
 loop-less c =
-    let start = c .before .before .before .before .before .before in
-    let turn = c .before .before .before .before .before in
-    let loop-test = c .before .before .before .before .loop-test in
-    omega (arith, climb-more (start .pre .0) (start .pre .1 .0 .0) (turn .loop .inv .0) (loop-test .taken), turn .loop .inv .1)
+    let at-loop-test = c .before .before .before .before in
+    let at-loop = at-loop-test .before in
+    let start = at-loop .before in
+    omega (arith, climb-more (start .pre .0) (start .pre .1 .0 .0) (at-loop .loop .inv .0) (at-loop-test .loop-test .taken), at-loop .loop .inv .1)
 
 loop-again : tie.Need-loop-again Inv-loop μ-loop
 loop-again c =
@@ -67,7 +67,9 @@ loop-again c =
 returns : tie.Need-returns Inv-loop μ-loop
 returns c =
     let start = c .before .before in
-    record { noted = c .before .loop .inv .0 .noted; count = omega (arith, c .before .loop .inv .1, ap length (climb-end (start .pre .0) (start .pre .1 .0 .0) (c .before .loop .inv .0) (start .pre .1 .0 .1) (c .loop-test .left))) }
+    let inv = c .before .loop .inv in
+    let end = climb-end (start .pre .0) (start .pre .1 .0 .0) (inv .0) (start .pre .1 .0 .1) (c .loop-test .left) in
+    record { noted = inv .0 .noted; count = omega (arith, inv .1, ap length end) }
 
 pub count-back-spec : {M : Type 1} → statement M
 count-back-spec =

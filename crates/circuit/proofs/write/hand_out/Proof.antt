@@ -2,7 +2,8 @@
 use lib.ListN.{length-set}
 use denote.Ref.{now}
 use native.Mathlib.Omega.{arith}
-use Rattle.circuit.proofs.Climbs.{Fill, climb-in, climb-place, fill-end, fill-left, fill-on, fill-start, noted-to, root-apart, root-in}
+use Rattle.circuit.proofs.Climbs.{climb-in, climb-place}
+use Rattle.circuit.proofs.Fills.{Fill, fill-end, fill-left, fill-on, fill-start, noted-to, root-apart, root-in}
 use Rattle.circuit.proofs.write.hand_out.Statement.{statement}
 use Rattle.circuit.proofs.write.hand_out.Tie as tie
 
@@ -30,7 +31,8 @@ count-back-requires c κs =
     let number = c .before .before .number in
     let root = root-in (start .pre .0) (start .pre .1 .0 .0) (start .pre .1 .0 .1) (c .number2 .ensures .0) in
     let apart = root-apart (start .pre .0) (start .pre .1 .0 .0) (start .pre .1 .0 .1) (c .number2 .ensures .0) (number .ensures .0) in
-    let noted = noted-to (start .args .nt) (start .args .np) (now (start .args .src)) (now (start .args .dst)) (now (start .args .via)) (start .args .p) (c .number2 .ensures .0) (number .ensures .0) (start .pre .1 .1) in
+    let a = start .args in
+    let noted = noted-to (a .nt) (a .np) (now (a .src)) (now (a .dst)) (now (a .via)) (a .p) (c .number2 .ensures .0) (number .ensures .0) (start .pre .1 .1) in
     (start .pre .0, ((root, apart), noted))
 
 loop-holds : tie.Need-loop-holds Inv-loop μ-loop
@@ -38,79 +40,81 @@ loop-holds c = fill-start (c .count-back .ensures)
 
 mul-index : tie.Need-mul-index Inv-loop μ-loop
 mul-index c =
-    let start = c .before .before .before .before .before .before .before .before in
-    let number2 = c .before .before .before .number2 in
-    let root = root-in (start .pre .0) (start .pre .1 .0 .0) (start .pre .1 .0 .1) (number2 .ensures .0) in
-    omega (arith, climb-in (start .pre .0) root (c .before .loop .inv .climb), start .pre .0 .few)
+    let at-loop = c .before in
+    let at-number2 = at-loop .before .before in
+    let start = at-number2 .before .before .before .before .before in
+    let root = root-in (start .pre .0) (start .pre .1 .0 .0) (start .pre .1 .0 .1) (at-number2 .number2 .ensures .0) in
+    omega (arith, climb-in (start .pre .0) root (at-loop .loop .inv .climb), start .pre .0 .few)
 
 element-copy-out-index : tie.Need-element-copy-out-index Inv-loop μ-loop
 element-copy-out-index c =
-    let start = c .before .before .before .before .before .before .before .before in
-    let number2 = c .before .before .before .number2 in
-    let root = root-in (start .pre .0) (start .pre .1 .0 .0) (start .pre .1 .0 .1) (number2 .ensures .0) in
-    omega (arith, climb-in (start .pre .0) root (c .before .loop .inv .climb), start .pre .0 .few)
+    let at-loop = c .before in
+    let at-number2 = at-loop .before .before in
+    let start = at-number2 .before .before .before .before .before in
+    let root = root-in (start .pre .0) (start .pre .1 .0 .0) (start .pre .1 .0 .1) (at-number2 .number2 .ensures .0) in
+    omega (arith, climb-in (start .pre .0) root (at-loop .loop .inv .climb), start .pre .0 .few)
 
 index-requires : tie.Need-index-requires Inv-loop μ-loop
 index-requires c κs = tt
 
 sub-q : tie.Need-sub-q Inv-loop μ-loop
 sub-q c =
-    let start = c .before .before .before .before .before .before .before .before .before .before in
-    let turn = c .before .before .before in
-    let number2 = c .before .before .before .before .before .number2 in
-    let loop-test = c .before .before .loop-test in
-    let root = root-in (start .pre .0) (start .pre .1 .0 .0) (start .pre .1 .0 .1) (number2 .ensures .0) in
-    let place = climb-place (start .pre .0) root (turn .loop .inv .climb) (loop-test .taken) (c .index .ensures .0) in
+    let at-loop-test = c .before .before in
+    let at-loop = at-loop-test .before in
+    let at-number2 = at-loop .before .before in
+    let start = at-number2 .before .before .before .before .before in
+    let root = root-in (start .pre .0) (start .pre .1 .0 .0) (start .pre .1 .0 .1) (at-number2 .number2 .ensures .0) in
+    let place = climb-place (start .pre .0) root (at-loop .loop .inv .climb) (at-loop-test .loop-test .taken) (c .index .ensures .0) in
     place .0
 
 sub-k : tie.Need-sub-k Inv-loop μ-loop
 sub-k c =
-    let start = c .before .before .before .before .before .before .before .before .before .before in
-    let turn = c .before .before .before in
-    let number2 = c .before .before .before .before .before .number2 in
-    let loop-test = c .before .before .loop-test in
-    let root = root-in (start .pre .0) (start .pre .1 .0 .0) (start .pre .1 .0 .1) (number2 .ensures .0) in
-    let room = fill-left (start .pre .0) root (turn .loop .inv) (start .pre .1 .0 .2) (loop-test .taken) in
+    let at-loop-test = c .before .before in
+    let at-loop = at-loop-test .before in
+    let at-number2 = at-loop .before .before in
+    let start = at-number2 .before .before .before .before .before in
+    let root = root-in (start .pre .0) (start .pre .1 .0 .0) (start .pre .1 .0 .1) (at-number2 .number2 .ensures .0) in
+    let room = fill-left (start .pre .0) root (at-loop .loop .inv) (start .pre .1 .0 .2) (at-loop-test .loop-test .taken) in
     omega (arith, room .0)
 
 cast-ring : tie.Need-cast-ring Inv-loop μ-loop
 cast-ring c =
-    let start = c .before .before .before .before .before .before .before .before .before .before in
-    let turn = c .before .before .before in
-    let number2 = c .before .before .before .before .before .number2 in
-    let loop-test = c .before .before .loop-test in
-    let root = root-in (start .pre .0) (start .pre .1 .0 .0) (start .pre .1 .0 .1) (number2 .ensures .0) in
-    let place = climb-place (start .pre .0) root (turn .loop .inv .climb) (loop-test .taken) (c .index .ensures .0) in
+    let at-loop-test = c .before .before in
+    let at-loop = at-loop-test .before in
+    let at-number2 = at-loop .before .before in
+    let start = at-number2 .before .before .before .before .before in
+    let root = root-in (start .pre .0) (start .pre .1 .0 .0) (start .pre .1 .0 .1) (at-number2 .number2 .ensures .0) in
+    let place = climb-place (start .pre .0) root (at-loop .loop .inv .climb) (at-loop-test .loop-test .taken) (c .index .ensures .0) in
     omega (arith, place .1, start .pre .0 .many)
 
 mul-ring : tie.Need-mul-ring Inv-loop μ-loop
 mul-ring c =
-    let start = c .before .before .before .before .before .before .before .before .before .before in
-    let turn = c .before .before .before in
-    let number2 = c .before .before .before .before .before .number2 in
-    let loop-test = c .before .before .loop-test in
-    let root = root-in (start .pre .0) (start .pre .1 .0 .0) (start .pre .1 .0 .1) (number2 .ensures .0) in
-    let room = fill-left (start .pre .0) root (turn .loop .inv) (start .pre .1 .0 .2) (loop-test .taken) in
+    let at-loop-test = c .before .before in
+    let at-loop = at-loop-test .before in
+    let at-number2 = at-loop .before .before in
+    let start = at-number2 .before .before .before .before .before in
+    let root = root-in (start .pre .0) (start .pre .1 .0 .0) (start .pre .1 .0 .1) (at-number2 .number2 .ensures .0) in
+    let room = fill-left (start .pre .0) root (at-loop .loop .inv) (start .pre .1 .0 .2) (at-loop-test .loop-test .taken) in
     omega (arith, room .1, start .pre .0 .few)
 
 slice-write-ring : tie.Need-slice-write-ring Inv-loop μ-loop
 slice-write-ring c =
-    let start = c .before .before .before .before .before .before .before .before .before .before in
-    let turn = c .before .before .before in
-    let number2 = c .before .before .before .before .before .number2 in
-    let loop-test = c .before .before .loop-test in
-    let root = root-in (start .pre .0) (start .pre .1 .0 .0) (start .pre .1 .0 .1) (number2 .ensures .0) in
-    let room = fill-left (start .pre .0) root (turn .loop .inv) (start .pre .1 .0 .2) (loop-test .taken) in
-    omega (arith, room .0, room .1, turn .loop .inv .long, start .pre .1 .0 .2)
+    let at-loop-test = c .before .before in
+    let at-loop = at-loop-test .before in
+    let at-number2 = at-loop .before .before in
+    let start = at-number2 .before .before .before .before .before in
+    let root = root-in (start .pre .0) (start .pre .1 .0 .0) (start .pre .1 .0 .1) (at-number2 .number2 .ensures .0) in
+    let room = fill-left (start .pre .0) root (at-loop .loop .inv) (start .pre .1 .0 .2) (at-loop-test .loop-test .taken) in
+    omega (arith, room .0, room .1, at-loop .loop .inv .long, start .pre .1 .0 .2)
 
 element-copy-out-number-3 : tie.Need-element-copy-out-number-3 Inv-loop μ-loop
 element-copy-out-number-3 c =
-    let start = c .before .before .before .before .before .before .before .before .before .before in
-    let turn = c .before .before .before in
-    let number2 = c .before .before .before .before .before .number2 in
-    let loop-test = c .before .before .loop-test in
-    let root = root-in (start .pre .0) (start .pre .1 .0 .0) (start .pre .1 .0 .1) (number2 .ensures .0) in
-    let place = climb-place (start .pre .0) root (turn .loop .inv .climb) (loop-test .taken) (c .index .ensures .0) in
+    let at-loop-test = c .before .before in
+    let at-loop = at-loop-test .before in
+    let at-number2 = at-loop .before .before in
+    let start = at-number2 .before .before .before .before .before in
+    let root = root-in (start .pre .0) (start .pre .1 .0 .0) (start .pre .1 .0 .1) (at-number2 .number2 .ensures .0) in
+    let place = climb-place (start .pre .0) root (at-loop .loop .inv .climb) (at-loop-test .loop-test .taken) (c .index .ensures .0) in
     omega (arith, place .1, start .pre .0 .many)
 
 number-requires-3 : tie.Need-number-requires-3 Inv-loop μ-loop
@@ -118,44 +122,49 @@ number-requires-3 c κs = tt
 
 loop-less : tie.Need-loop-less Inv-loop μ-loop
 loop-less c =
-    let start = c .before .before .before .before .before .before .before .before .before .before .before .before in
-    let turn = c .before .before .before .before .before in
-    let number2 = c .before .before .before .before .before .before .before .number2 in
-    let loop-test = c .before .before .before .before .loop-test in
-    let root = root-in (start .pre .0) (start .pre .1 .0 .0) (start .pre .1 .0 .1) (number2 .ensures .0) in
-    let room = fill-left (start .pre .0) root (turn .loop .inv) (start .pre .1 .0 .2) (loop-test .taken) in
+    let at-loop-test = c .before .before .before .before in
+    let at-loop = at-loop-test .before in
+    let at-number2 = at-loop .before .before in
+    let start = at-number2 .before .before .before .before .before in
+    let root = root-in (start .pre .0) (start .pre .1 .0 .0) (start .pre .1 .0 .1) (at-number2 .number2 .ensures .0) in
+    let room = fill-left (start .pre .0) root (at-loop .loop .inv) (start .pre .1 .0 .2) (at-loop-test .loop-test .taken) in
     omega (arith, room .0)
 
 loop-again : tie.Need-loop-again Inv-loop μ-loop
 loop-again c =
-    let start = c .before .before .before .before .before .before .before .before .before .before .before .before in
-    let turn = c .before .before .before .before .before in
-    let number2 = c .before .before .before .before .before .before .before .number2 in
-    let loop-test = c .before .before .before .before .loop-test in
-    let index = c .before .before .index in
-    let root = root-in (start .pre .0) (start .pre .1 .0 .0) (start .pre .1 .0 .1) (number2 .ensures .0) in
-    fill-on (start .pre .0) root (turn .loop .inv) (start .pre .1 .0 .2) (loop-test .taken) (index .ensures .0) (c .number3 .ensures .0)
+    let at-index = c .before .before in
+    let at-loop-test = at-index .before .before in
+    let at-loop = at-loop-test .before in
+    let at-number2 = at-loop .before .before in
+    let start = at-number2 .before .before .before .before .before in
+    let root = root-in (start .pre .0) (start .pre .1 .0 .0) (start .pre .1 .0 .1) (at-number2 .number2 .ensures .0) in
+    fill-on (start .pre .0) root (at-loop .loop .inv) (start .pre .1 .0 .2) (at-loop-test .loop-test .taken) (at-index .index .ensures .0) (c .number3 .ensures .0)
 
 cast-ring-2 : tie.Need-cast-ring-2 Inv-loop μ-loop
-cast-ring-2 c = omega (arith, c .before .before .before .before .before .before .before .before .pre .1 .0 .0, c .before .before .before .before .before .before .before .before .pre .0 .many)
+cast-ring-2 c =
+    let at-number = c .before .before .before .before .before in
+    let start = at-number .before .before .before in
+    omega (arith, start .pre .1 .0 .0, start .pre .0 .many)
 
 slice-write-ring-2 : tie.Need-slice-write-ring-2 Inv-loop μ-loop
 slice-write-ring-2 c =
-    let start = c .before .before .before .before .before .before .before .before in
-    let number2 = c .before .before .before .number2 in
-    omega (arith, root-in (start .pre .0) (start .pre .1 .0 .0) (start .pre .1 .0 .1) (number2 .ensures .0), c .before .loop .inv .long, start .pre .1 .0 .2)
+    let at-loop = c .before in
+    let at-number2 = at-loop .before .before in
+    let start = at-number2 .before .before .before .before .before in
+    omega (arith, root-in (start .pre .0) (start .pre .1 .0 .0) (start .pre .1 .0 .1) (at-number2 .number2 .ensures .0), at-loop .loop .inv .long, start .pre .1 .0 .2)
 
 same-length : tie.Need-same-length Inv-loop μ-loop
 same-length c = simp length-set (c .before .loop .inv .long)
 
 returns : tie.Need-returns Inv-loop μ-loop
 returns c =
-    let start = c .before .before .before .before .before .before .before .before in
-    let number = c .before .before .before .before .before .number in
-    let number2 = c .before .before .before .number2 in
-    let root = root-in (start .pre .0) (start .pre .1 .0 .0) (start .pre .1 .0 .1) (number2 .ensures .0) in
-    let apart = root-apart (start .pre .0) (start .pre .1 .0 .0) (start .pre .1 .0 .1) (number2 .ensures .0) (number .ensures .0) in
-    fill-end (start .pre .0) root (c .before .loop .inv) (start .pre .1 .0 .2) (number2 .ensures .0) (number .ensures .0) apart (c .loop-test .left)
+    let at-loop = c .before in
+    let at-number2 = at-loop .before .before in
+    let at-number = at-number2 .before .before in
+    let start = at-number .before .before .before in
+    let root = root-in (start .pre .0) (start .pre .1 .0 .0) (start .pre .1 .0 .1) (at-number2 .number2 .ensures .0) in
+    let apart = root-apart (start .pre .0) (start .pre .1 .0 .0) (start .pre .1 .0 .1) (at-number2 .number2 .ensures .0) (at-number .number .ensures .0) in
+    fill-end (start .pre .0) root (at-loop .loop .inv) (start .pre .1 .0 .2) (at-number2 .number2 .ensures .0) (at-number .number .ensures .0) apart (c .loop-test .left)
 
 pub hand-out-spec : {M : Type 1} → statement M
 hand-out-spec =

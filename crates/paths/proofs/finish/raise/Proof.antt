@@ -62,7 +62,9 @@ returns c =
     let at-node-time = at-if1 .before .before in
     let at-node = at-node-time .before in
     let start = at-node .before .before in
-    lifted-as (at-node .node .ensures) (read-unmarked (start .pre .0) (start .pre .1) (at-node .node .ensures) (at-node-time .node-time .ensures) (at-if1 .if1 .taken) (at-node2 .node2 .ensures)) (c .lift .ensures)
+    let target = at-node .node .ensures in
+    let offer = read-unmarked (start .pre .0) (start .pre .1) target (at-node-time .node-time .ensures) (at-if1 .if1 .taken) (at-node2 .node2 .ensures) in
+    lifted-as target offer (c .lift .ensures)
 
 lift-requires-2 : tie.Need-lift-requires-2
 lift-requires-2 c κs =

@@ -43,8 +43,8 @@ returns c =
     let o = start .pre .0 in
     let room = room-swept (weighted-short o) (start .pre .1 .0 .1 .down) (at-loop .loop .inv .1) (at-sweep .sweep .ensures) in
     record {
-    improves = certified (certify (at-loop .loop .inv .0) (at-sweep .sweep .ensures .swept) (c .if1 .taken));
-    low = λ v. omega (arith, o .wired .operations, o .wired .edges, at-loop .loop .inv .0 .few, room .low v);
+      improves = certified (certify (at-loop .loop .inv .0) (at-sweep .sweep .ensures .swept) (c .if1 .taken));
+      low = λ v. omega (arith, o .wired .operations, o .wired .edges, at-loop .loop .inv .0 .few, room .low v);
     }
 
 follow-requires : tie.Need-follow-requires Inv-loop μ-loop
