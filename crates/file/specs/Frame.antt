@@ -1,4 +1,5 @@
--- Rows 1 to 4 of the refusal table (document 01, "Calls and refusals"), the frame of a file, and the rows of look: what is asked of the file, then what is asked of its graph.
+-- Rows 1 to 4 of the refusal table (document 01, "Calls and refusals"), the frame of a file, and the rows of look:
+-- what is asked of the file, then what is asked of its graph.
 use Prim.Native.Nat.{ℕ, _+_, _*_, _-_, _<_}
 use mathlib.Core.Path.{_≡_}
 use mathlib.Core.Logic.{_⊎_}

@@ -10,7 +10,8 @@ use Rattle.file.specs.Limits.{operationBytes}
 use Rattle.file.specs.File.{operationsAt, operationsOf, planOf, trailerAt}
 use Rattle.file.specs.Frame.{Framed}
 
--- Byte p is a label's: it stands before the trailer, and is one of bytes 4 to 11 of a record of the operation table that the trailer tells, be the file accepted or refused.
+-- Byte p is a label's: it stands before the trailer, and is one of bytes 4 to 11 of a record of the operation table
+-- that the trailer tells, be the file accepted or refused.
 pub record Label (f : List ℕ) (p : ℕ) : Type 0 where
   pub before : p < trailerAt f
   pub operation : ℕ

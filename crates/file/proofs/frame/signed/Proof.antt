@@ -7,6 +7,10 @@ use borrow.Author.Needs.{needs}
 use Rattle.file.proofs.frame.signed.Statement.{statement}
 use Rattle.file.proofs.frame.signed.Tie as tie
 
+-- Where the second byte is right, the first one was.
+abbrev passed-1 : tie.Else2 → tie.Else1
+passed-1 c = c .before .before
+
 sub-at : tie.Need-sub-at
 sub-at c = search needs
 
@@ -35,7 +39,12 @@ ends-requires c κs = search needs
 
 returns-3 : tie.Need-returns-3
 unfolding trailerAt
-returns-3 c = says-map (λ e. record { layout = sym (c .before .before .before .before .byte .ensures) ∙ c .before .before .before .if1 .left; zero-byte = sym (c .before .before .byte2 .ensures) ∙ c .before .if2 .left; ends = e }) (λ h. h .ends) (c .ends .ensures)
+returns-3 c =
+    let second = c .before in
+    let first = passed-1 second in
+    let layout = sym (first .before .byte .ensures) ∙ first .if1 .left in
+    let zero-byte = sym (second .before .byte2 .ensures) ∙ second .if2 .left in
+    says-map (λ e. record { layout = layout; zero-byte = zero-byte; ends = e }) (λ h. h .ends) (c .ends .ensures)
 
 pub signed-spec : {M : Type 1} → statement M
 signed-spec =
