@@ -62,10 +62,20 @@ set-sound P seen i j h n e = go (ℕ-discrete n i)
 module _ {e : ℕ} {from to : List ℕ} where
   reached-mark : {seen : List ℕ} (i : ℕ) → Joined (wires 0 e from to) i → Reached e from to seen → Reached e from to (set seen i 1)
   reached-mark {seen} i j h =
-      record { long = length-set seen i 1 ∙ h .long; start = set-marked seen i 0 (h .start); bits = λ n. set-bits seen i n (h .bits); sound = set-sound (Joined (wires 0 e from to)) seen i j (h .sound) }
+      record {
+        long = length-set seen i 1 ∙ h .long;
+        start = set-marked seen i 0 (h .start);
+        bits = λ n. set-bits seen i n (h .bits);
+        sound = set-sound (Joined (wires 0 e from to)) seen i j (h .sound);
+      }
 
   pub reached-start : Reached e from to (set (replicate 42 0) 0 1)
-  reached-start = record { long = refl; start = refl; bits = λ n. set-bits (replicate 42 0) 0 n (λ k. omega (arith, zeros 42 k)); sound = set-sound (Joined (wires 0 e from to)) (replicate 42 0) 0 source (λ n e. absurd (let z : ⊥ = omega (arith, zeros 42 n, e) in z)) }
+  reached-start = record {
+    long = refl;
+    start = refl;
+    bits = λ n. set-bits (replicate 42 0) 0 n (λ k. omega (arith, zeros 42 k));
+    sound = set-sound (Joined (wires 0 e from to)) (replicate 42 0) 0 source (λ n e. absurd (let z : ⊥ = omega (arith, zeros 42 n, e) in z));
+  }
 
   -- An edge that is not even has both ends joined, and one end unmarked.
   module _ {seen : List ℕ} {k : ℕ} (h : Reached e from to seen) (inside : k < e) (odd : Even from to seen k → ⊥) where
@@ -99,10 +109,18 @@ module _ {e : ℕ} {from to : List ℕ} where
       differ : was ≡ false → was ≡ true → ⊥
       differ p q = let z : _≡_ {A = ℕ} 0 1 = cc in omega arith
 
-  pub spread-more : {seen : List ℕ} {k a b : ℕ} (was : Bool) → Reached e from to seen → k < e → (at seen a ≡ at seen b → ⊥) → a ≡ at from k → b ≡ at to k → at from k < 42 → at to k < 42 → Spread e from to k seen was (set (set seen a 1) b 1) true
+  pub spread-more :
+      {seen : List ℕ} {k a b : ℕ} (was : Bool) → Reached e from to seen → k < e → (at seen a ≡ at seen b → ⊥) →
+      a ≡ at from k → b ≡ at to k → at from k < 42 → at to k < 42 → Spread e from to k seen was (set (set seen a 1) b 1) true
   spread-more {seen} {k} was h inside odd p q l m =
       let odd′ : Even from to seen k → ⊥ = λ r. odd (cc (p, q, r)) in
-      rw (p, q) (record { reached = reached-more h inside odd′; fewer = omega (arith, falls-more h inside odd′ l m); grows = λ u v. falls-more h inside odd′ l m; still = λ u. absurd (let z : _≡_ {A = ℕ} 0 1 = cc u in omega arith) })
+      rw (p, q)
+      (record {
+        reached = reached-more h inside odd′;
+        fewer = omega (arith, falls-more h inside odd′ l m);
+        grows = λ u v. falls-more h inside odd′ l m;
+        still = λ u. absurd (let z : _≡_ {A = ℕ} 0 1 = cc u in omega arith);
+      })
 
   -- A pass, edge after edge.
   pub passed-none : {seen : List ℕ} → Reached e from to seen → Passed e from to 0 seen seen false

@@ -12,6 +12,10 @@ Inv-loop e from to seen₀ passes₀ seen passes = Reached e from to seen
 abbrev μ-loop : tie.MeasureT-loop
 μ-loop e from to seen₀ passes₀ seen passes = missing seen
 
+-- The start of the call, from where a pass is made.
+abbrev start : tie.After-pass Inv-loop μ-loop → tie.Start Inv-loop μ-loop
+start c = c .before .before .before
+
 array-write-seen : tie.Need-array-write-seen Inv-loop μ-loop
 array-write-seen c = search needs
 
@@ -22,7 +26,9 @@ pass-requires : tie.Need-pass-requires Inv-loop μ-loop
 pass-requires c κs = (c .before .before .pre, c .before .loop .inv)
 
 hasten-requires : tie.Need-hasten-requires Inv-loop μ-loop
-hasten-requires c κs = (c .before .before .before .before .before .pre, c .before .before .pass .ensures .reached)
+hasten-requires c κs =
+    let at-pass = c .before .before in
+    (start at-pass .pre, at-pass .pass .ensures .reached)
 
 loop-less : tie.Need-loop-less Inv-loop μ-loop
 loop-less c =

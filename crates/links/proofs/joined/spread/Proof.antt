@@ -46,7 +46,12 @@ element-write-seen-2 : tie.Need-element-write-seen-2
 element-write-seen-2 c = node (c .before .before .before) .1
 
 returns-2 : tie.Need-returns-2
-returns-2 c = let d = c .before .before .before in let s = start d in spread-more (s .args .changed) (s .pre .1 .0) (s .pre .1 .1) (c .if1 .left) (d .before .before .wide .ensures) (d .wide2 .ensures) (s .pre .0 .leaves _ (s .pre .1 .1)) (s .pre .0 .enters _ (s .pre .1 .1))
+returns-2 c =
+    let d = c .before .before .before in
+    let s = start d in
+    let inside = s .pre .1 .1 in
+    spread-more (s .args .changed) (s .pre .1 .0) inside (c .if1 .left)
+    (d .before .before .wide .ensures) (d .wide2 .ensures) (s .pre .0 .leaves _ inside) (s .pre .0 .enters _ inside)
 
 pub spread-spec : {M : Type 1} → statement M
 spread-spec =

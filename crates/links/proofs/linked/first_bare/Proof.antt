@@ -17,6 +17,10 @@ Inv-loop n e from to out into last node₀ node = (node ≤ last + 1) × ((y : �
 abbrev μ-loop : tie.MeasureT-loop
 μ-loop n e from to out into last node₀ node = last + 1 - node
 
+-- The turn of the loop that asks about a node.
+abbrev at-loop : tie.After-bound Inv-loop μ-loop → tie.At-loop Inv-loop μ-loop
+at-loop c = c .before .before
+
 tick-requires : tie.Need-tick-requires Inv-loop μ-loop
 tick-requires c κs = (c .pre .edges, wired-ended (c .pre) .leaves)
 
@@ -39,7 +43,13 @@ bound-requires : tie.Need-bound-requires Inv-loop μ-loop
 bound-requires c κs = tt
 
 returns : tie.Need-returns Inv-loop μ-loop
-returns c = record { place = omega arith; broken = λ h. denied (c .before .bound .ensures) (not-true _ (c .if1 .taken)) (linked-bound (c .before .before .before .before .before .tick .ensures) (c .before .before .before .before .tick2 .ensures) h); lower = c .before .before .before .loop .inv .1 }
+returns c =
+    let d = at-loop (c .before) in
+    record {
+      place = omega arith;
+      broken = λ h. denied (c .before .bound .ensures) (not-true _ (c .if1 .taken)) (linked-bound (d .before .before .tick .ensures) (d .before .tick2 .ensures) h);
+      lower = d .loop .inv .1;
+    }
 
 add-node : tie.Need-add-node Inv-loop μ-loop
 add-node c = omega arith
@@ -48,7 +58,10 @@ loop-less : tie.Need-loop-less Inv-loop μ-loop
 loop-less c = omega arith
 
 loop-again : tie.Need-loop-again Inv-loop μ-loop
-loop-again c = (omega arith, below-more _ _ (c .before .before .before .loop .inv .1) (λ d. bound-linked (c .before .before .before .before .before .tick .ensures) (c .before .before .before .before .tick2 .ensures) (said (c .before .bound .ensures) (not-false _ (c .if1 .left)))))
+loop-again c =
+    let d = at-loop (c .before) in
+    let bound = said (c .before .bound .ensures) (not-false _ (c .if1 .left)) in
+    (omega arith, below-more _ _ (d .loop .inv .1) (λ n. bound-linked (d .before .before .tick .ensures) (d .before .tick2 .ensures) bound))
 
 returns-2 : tie.Need-returns-2 Inv-loop μ-loop
 returns-2 c = λ y d. c .before .loop .inv .1 y (omega arith) d

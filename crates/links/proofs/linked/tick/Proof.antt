@@ -14,9 +14,13 @@ Inv-loop e ends seen₀ k₀ seen k = (k ≤ e) × (length seen ≡ 42) × Ticks
 abbrev μ-loop : tie.MeasureT-loop
 μ-loop e ends seen₀ k₀ seen k = e - k
 
+-- The turn of the loop that reads an end.
+abbrev at-loop : tie.After-wide Inv-loop μ-loop → tie.At-loop Inv-loop μ-loop
+at-loop c = c .before .before .before
+
 -- The end of the edge at hand is a node.
 node : (c : tie.After-wide Inv-loop μ-loop) → c .wide .result < 42
-node c = omega (arith, c .wide .ensures, c .before .before .before .before .pre .1 (c .before .before .before .loop .k) (omega arith))
+node c = let d = at-loop c in omega (arith, c .wide .ensures, d .before .pre .1 (d .loop .k) (omega arith))
 
 loop-holds : tie.Need-loop-holds Inv-loop μ-loop
 loop-holds c = (omega arith, refl, ticks-none _)
@@ -37,7 +41,9 @@ loop-less : tie.Need-loop-less Inv-loop μ-loop
 loop-less c = omega arith
 
 loop-again : tie.Need-loop-again Inv-loop μ-loop
-loop-again c = (omega arith, rw length-set (c .before .before .before .loop .inv .1), ticks-more _ (c .wide .ensures) (rw (c .before .before .before .loop .inv .1) (node c)) (c .before .before .before .loop .inv .2))
+loop-again c =
+    let inv = at-loop c .loop .inv in
+    (omega arith, rw length-set (inv .1), ticks-more _ (c .wide .ensures) (rw (inv .1) (node c)) (inv .2))
 
 returns : tie.Need-returns Inv-loop μ-loop
 returns c = ticks-to (omega arith) (c .before .loop .inv .2)
