@@ -39,7 +39,9 @@ touched edges end n (inr a) = no (λ t. a (t .edge) (t .inside) (rw (t .there) (
 abbrev pub linked? : (p : Plan) (n : ℕ) → Dec (Linked p n)
 linked? p n =
     same? (λ x. record { out = x .0; into = x .1 }) (λ l. (l .out, l .into))
-    (both? (given? (le? n (p .operations)) (touched (p .edges) (p .from) n (seek (λ e. eqb (p .from e) n) (p .edges)))) (given? (le? 1 n) (touched (p .edges) (p .to) n (seek (λ e. eqb (p .to e) n) (p .edges)))))
+    (both?
+    (given? (le? n (p .operations)) (touched (p .edges) (p .from) n (seek (λ e. eqb (p .from e) n) (p .edges))))
+    (given? (le? 1 n) (touched (p .edges) (p .to) n (seek (λ e. eqb (p .to e) n) (p .edges)))))
 
 -- What a search of a row finds: nothing, or the lowest place at which it is broken.
 abbrev pub Searched : Ask → Type 0

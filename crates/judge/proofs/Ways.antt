@@ -95,7 +95,12 @@ module _ (k n : ℕ) (from to : ℕ → ℕ) (t : ℕ) (bound : (p : ℕ) → p 
   abbrev add : (g : Got) (p : ℕ) → p < k → T (crosses (g .list) p) → Got
   add g p l h =
       let r = reached (g .list) p h in
-      record { list = to p ∷ g .list; ways = (way (either (eqb (from p) t) (has (from p) (g .list)) (r .0)), g .ways); below = (bound p l, g .below); distinct = (has-not (to p) (g .list) (r .1), g .distinct) }
+      record {
+        list = to p ∷ g .list;
+        ways = (way (either (eqb (from p) t) (has (from p) (g .list)) (r .0)), g .ways);
+        below = (bound p l, g .below);
+        distinct = (has-not (to p) (g .list) (r .1), g .distinct);
+      }
     where
       way : T (eqb (from p) t) ⊎ T (has (from p) (g .list)) → Way k from to t (to p)
       way (inl e) = one p l (eqb→eq (from p) t e)

@@ -20,6 +20,12 @@ Inv-loop n e from to mark buffers k₀ k =
 abbrev μ-loop : tie.MeasureT-loop
 μ-loop n e from to mark buffers k₀ k = e - k
 
+-- The turn of the loop that asks about an edge.
+abbrev at-loop : tie.After-allowed Inv-loop μ-loop → tie.At-loop Inv-loop μ-loop
+at-loop c =
+    let read = c .before .before .before in
+    read .before .before .before
+
 -- src/edges.rt:46:5
 loop-holds : tie.Need-loop-holds Inv-loop μ-loop
 loop-holds c = (omega arith, λ y l d. absurd (let z : ⊥ = omega arith in z))
@@ -46,7 +52,9 @@ allowed-requires c κs = search needs
 
 -- src/edges.rt:48:13
 returns : tie.Need-returns Inv-loop μ-loop
-returns c = let l = (let d = c .before .before .before in d .before .before .before .before) in record { place = omega arith; broken = denied (c .before .allowed .ensures) (not-true _ (c .if1 .taken)); lower = l .loop .inv .1 }
+returns c =
+    let l = at-loop (c .before) in
+    record { place = omega arith; broken = denied (c .before .allowed .ensures) (not-true _ (c .if1 .taken)); lower = l .loop .inv .1 }
 
 -- src/edges.rt:50:9
 add-k : tie.Need-add-k Inv-loop μ-loop
@@ -58,7 +66,9 @@ loop-less c = omega arith
 
 -- src/edges.rt:46:5
 loop-again : tie.Need-loop-again Inv-loop μ-loop
-loop-again c = let l = (let d = c .before .before .before in d .before .before .before .before) in (omega arith, below-more _ _ (l .loop .inv .1) (λ d. said (c .before .allowed .ensures) (not-false _ (c .if1 .left))))
+loop-again c =
+    let l = at-loop (c .before) in
+    (omega arith, below-more _ _ (l .loop .inv .1) (λ d. said (c .before .allowed .ensures) (not-false _ (c .if1 .left))))
 
 -- src/edges.rt:34:1
 returns-2 : tie.Need-returns-2 Inv-loop μ-loop

@@ -40,7 +40,11 @@ timely-requires c κs = tt
 
 -- src/operations.rt:33:13
 returns : tie.Need-returns Inv-loop μ-loop
-returns c = record { place = record { low-met = omega arith; high-met = omega arith }; broken = denied (c .before .timely .ensures) (not-true _ (c .if1 .taken)); lower = c .before .before .before .before .loop .inv .2 }
+returns c = record {
+  place = record { low-met = omega arith; high-met = omega arith };
+  broken = denied (c .before .timely .ensures) (not-true _ (c .if1 .taken));
+  lower = c .before .before .before .before .loop .inv .2;
+}
 
 -- src/operations.rt:35:9
 add-i : tie.Need-add-i Inv-loop μ-loop
