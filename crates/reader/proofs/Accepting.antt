@@ -33,7 +33,9 @@ accepted-sound f e h = judged-sound (rw e at h)
 pub shown-counted : (f : List ℕ) {g : Graph} → Counted (operationsOf f) (edgesOf f) → Shows (planOf f) (operationsOf f) (edgesOf f) g → Counted (g .operations) (g .edges)
 shown-counted f c s = rw (s .operations, s .edges) c
 
-pub accepted-good : (f : List ℕ) (r : Look) → r .verdict ≡ Accepted → LookReply f r → Good (r .graph .operations) (r .graph .edges) (r .graph .times) (r .graph .from) (r .graph .to) (r .graph .mark) (r .graph .buffers)
+pub accepted-good :
+    (f : List ℕ) (r : Look) → r .verdict ≡ Accepted → LookReply f r →
+    Good (r .graph .operations) (r .graph .edges) (r .graph .times) (r .graph .from) (r .graph .to) (r .graph .mark) (r .graph .buffers)
 accepted-good f r e h =
     let parts = sound-parts (frameRows f) (graphRows (planOf f)) (accepted-sound f e (h .judged)) in
     let shows : Shows (planOf f) (operationsOf f) (edgesOf f) (r .graph) = subst (λ (v : Verdict). Beside f v (r .graph)) e (h .beside) in

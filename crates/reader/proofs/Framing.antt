@@ -31,4 +31,8 @@ or? (no f) (no g) = no (λ x. ⊎-elim f g x)
 abbrev pub laid? : (f : List ℕ) → Dec (Laid f)
 laid? f =
     same? (λ x. record { back = x .0; filled = x .1 .0; order = x .1 .1 }) (λ l. (l .back, (l .filled, l .order)))
-    (both? (eq? (backOf f) (trailerAt f)) (both? (eq? (operationBytes * operationsOf f + edgeBytes * edgesOf f) (trailerAt f)) (or? (both? (eq? (operationsAt f) 0) (eq? (edgesAt f) (operationBytes * operationsOf f))) (both? (eq? (edgesAt f) 0) (eq? (operationsAt f) (edgeBytes * edgesOf f))))))
+    (both? (eq? (backOf f) (trailerAt f))
+    (both? (eq? (operationBytes * operationsOf f + edgeBytes * edgesOf f) (trailerAt f))
+    (or?
+    (both? (eq? (operationsAt f) 0) (eq? (edgesAt f) (operationBytes * operationsOf f)))
+    (both? (eq? (edgesAt f) 0) (eq? (operationsAt f) (edgeBytes * edgesOf f))))))

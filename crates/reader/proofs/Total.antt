@@ -81,7 +81,15 @@ filled-fill room n h l = record { long = fill-long room n h 0; used = used; unus
 -- The graph that shows a part of a plan.
 abbrev graphOf : Plan → ℕ → ℕ → Graph
 graphOf p n e =
-    record { operations = n; edges = e; times = fill mostOperations n (λ i. p .time (i + 1)) 0; from = fill mostEdges e (p .from) 0; to = fill mostEdges e (p .to) 0; mark = fill mostEdges e (p .mark) 0; buffers = fill mostEdges e (p .buffers) 0 }
+    record {
+      operations = n;
+      edges = e;
+      times = fill mostOperations n (λ i. p .time (i + 1)) 0;
+      from = fill mostEdges e (p .from) 0;
+      to = fill mostEdges e (p .to) 0;
+      mark = fill mostEdges e (p .mark) 0;
+      buffers = fill mostEdges e (p .buffers) 0;
+    }
 
 shows-graph : (p : Plan) (n e : ℕ) → n ≤ mostOperations → e ≤ mostEdges → Shows p n e (graphOf p n e)
 shows-graph p n e a b =

@@ -43,7 +43,8 @@ returns : tie.Need-returns
 returns c =
     let k = c .before .before in
     let f = now (k .before .before .before .before .args .file) in
-    c .refused .ensures f (given-first (frameRows f) (graphRows (planOf f)) (judged-given (subst (λ (v : Verdict). Judged (frameRows f) v) (k .verdict .given .1) (k .before .before .framed .ensures))))
+    let judged = subst (λ (v : Verdict). Judged (frameRows f) v) (k .verdict .given .1) (k .before .before .framed .ensures) in
+    c .refused .ensures f (given-first (frameRows f) (graphRows (planOf f)) (judged-given judged))
 
 enum-told : tie.Need-enum-told
 enum-told c = search needs
