@@ -24,7 +24,10 @@ item-requires : tie.Need-item-requires Inv-loop μ-loop
 item-requires c κs = (c .before .before .pre .0 .operations, c .before .before .pre .0 .edges, omega arith)
 
 element-write-left : tie.Need-element-write-left Inv-loop μ-loop
-element-write-left c = omega (arith, c .before .before .before .pre .0 .operations, c .before .before .before .pre .0 .edges, c .before .before .loop .inv .1 .long)
+element-write-left c =
+    let at-loop = c .before .before in
+    let start = at-loop .before in
+    omega (arith, start .pre .0 .operations, start .pre .0 .edges, at-loop .loop .inv .1 .long)
 
 number-requires : tie.Need-number-requires Inv-loop μ-loop
 number-requires c κs = search needs

@@ -16,10 +16,14 @@ enlist-requires : tie.Need-enlist-requires Inv-loop μ-loop
 enlist-requires c κs = (c .before .before .pre .0, refl)
 
 add-l : tie.Need-add-l Inv-loop μ-loop
-add-l c = omega (arith, c .before .before .before .pre .0 .operations, c .before .before .before .pre .0 .edges)
+add-l c =
+    let start = c .before .before .before in
+    omega (arith, start .pre .0 .operations, start .pre .0 .edges)
 
 loop-holds : tie.Need-loop-holds Inv-loop μ-loop
-loop-holds c = sort-start (c .before .before .before .pre .0 .edges) (c .enlist .ensures) (c .before .before .before .pre .1)
+loop-holds c =
+    let start = c .before .before .before in
+    sort-start (start .pre .0 .edges) (c .enlist .ensures) (start .pre .1)
 
 pass-requires : tie.Need-pass-requires Inv-loop μ-loop
 pass-requires c κs =

@@ -18,7 +18,9 @@ loop-holds : tie.Need-loop-holds Inv-loop μ-loop
 loop-holds c = (c .pre .1, λ z. refl)
 
 take-requires : tie.Need-take-requires Inv-loop μ-loop
-take-requires c κs = (c .before .before .before .before .before .pre .0, (omega arith, c .before .before .before .before .loop .inv .0))
+take-requires c κs =
+    let at-loop = c .before .before .before .before in
+    (at-loop .before .pre .0, (omega arith, at-loop .loop .inv .0))
 
 add-i : tie.Need-add-i Inv-loop μ-loop
 add-i c =
