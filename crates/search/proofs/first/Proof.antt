@@ -15,7 +15,10 @@ loop-holds : tie.Need-loop-holds Inv-loop μ-loop
 loop-holds c = missed-start (c .pre .1 .1)
 
 returns-to-requires : tie.Need-returns-to-requires Inv-loop μ-loop
-returns-to-requires c κs = (c .before .before .before .pre .0, (c .before .before .before .pre .1 .0, (omega arith, c .before .before .loop .inv .long)))
+returns-to-requires c κs =
+    let at-loop = c .before .before in
+    let start = at-loop .before in
+    (start .pre .0, (start .pre .1 .0, (omega arith, at-loop .loop .inv .long)))
 
 returns : tie.Need-returns Inv-loop μ-loop
 returns c = lowest-yes (c .before .before .before .before .loop .inv) (c .before .returns-to .ensures) (c .if1 .taken)

@@ -50,7 +50,9 @@ enum-known-m : tie.Need-enum-known-m Inv-loop μ-loop
 enum-known-m c = search needs
 
 loop-less : tie.Need-loop-less Inv-loop μ-loop
-loop-less c = left-less (c .before .before .before .turn .ensures) (outcome-at (c .before .before .before .turn .ensures .outcome) (c .before .m .given .1))
+loop-less c =
+    let turn = c .before .before .before .turn in
+    left-less (turn .ensures) (outcome-at (turn .ensures .outcome) (c .before .m .given .1))
 
 loop-again : tie.Need-loop-again Inv-loop μ-loop
 loop-again c = outcome-at (c .before .before .before .turn .ensures .outcome) (c .before .m .given .1)
