@@ -39,10 +39,16 @@ loop-less : tie.Need-loop-less Inv-loop μ-loop
 loop-less c = omega arith
 
 loop-again : tie.Need-loop-again Inv-loop μ-loop
-loop-again c = (omega arith, omega (arith, times-more (now (c .before .before .before .args .times)) (c .before .before .loop .i), c .before .before .loop .inv .1))
+loop-again c =
+    let turn = c .before .before in
+    (omega arith, omega (arith, times-more (now (turn .before .args .times)) (turn .loop .i), turn .loop .inv .1))
 
 returns : tie.Need-returns Inv-loop μ-loop
-returns c = let all : c .before .loop .i ≡ c .before .before .args .n = omega arith in c .before .loop .inv .1 ∙ ap (upto (λ (j : ℕ). timeAt (now (c .before .before .args .times)) (j + 1))) all
+returns c =
+    let turn = c .before in
+    let a = turn .before .args in
+    let all : turn .loop .i ≡ a .n = omega arith in
+    turn .loop .inv .1 ∙ ap (upto (λ (j : ℕ). timeAt (now (a .times)) (j + 1))) all
 
 pub all-times-spec : {M : Type 1} → statement M
 all-times-spec =

@@ -18,13 +18,13 @@ element-copy-out-result : tie.Need-element-copy-out-result
 element-copy-out-result c = search needs
 
 returns : tie.Need-returns
-returns c = sym (time-operation (c .before .before .before .args .n) (timeAt (now (c .before .before .before .args .times))) (c .before .before .before .args .v) (omega arith) (omega arith))
+returns c = let a = c .before .before .before .args in sym (time-operation (a .n) (timeAt (now (a .times))) (a .v) (omega arith) (omega arith))
 
 returns-2 : tie.Need-returns-2
-returns-2 c = sym (time-sink (c .before .before .args .n) (timeAt (now (c .before .before .args .times))) (c .before .before .args .v) (omega arith))
+returns-2 c = let a = c .before .before .args in sym (time-sink (a .n) (timeAt (now (a .times))) (a .v) (omega arith))
 
 returns-3 : tie.Need-returns-3
-returns-3 c = sym (time-source (c .before .args .n) (timeAt (now (c .before .args .times))) (c .before .args .v) (omega arith))
+returns-3 c = let a = c .before .args in sym (time-source (a .n) (timeAt (now (a .times))) (a .v) (omega arith))
 
 pub node-time-spec : {M : Type 1} → statement M
 node-time-spec =
