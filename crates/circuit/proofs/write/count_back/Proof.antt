@@ -18,10 +18,16 @@ loop-holds : tie.Need-loop-holds Inv-loop μ-loop
 loop-holds c = (climb-start (now (c .args .via)) (c .pre .1 .1), omega arith)
 
 mul-index : tie.Need-mul-index Inv-loop μ-loop
-mul-index c = omega (arith, climb-in (c .before .before .pre .0) (c .before .before .pre .1 .0 .0) (c .before .loop .inv .0), c .before .before .pre .0 .few)
+mul-index c =
+    let at-loop = c .before in
+    let start = at-loop .before in
+    omega (arith, climb-in (start .pre .0) (start .pre .1 .0 .0) (at-loop .loop .inv .0), start .pre .0 .few)
 
 element-copy-out-index : tie.Need-element-copy-out-index Inv-loop μ-loop
-element-copy-out-index c = omega (arith, climb-in (c .before .before .pre .0) (c .before .before .pre .1 .0 .0) (c .before .loop .inv .0), c .before .before .pre .0 .few)
+element-copy-out-index c =
+    let at-loop = c .before in
+    let start = at-loop .before in
+    omega (arith, climb-in (start .pre .0) (start .pre .1 .0 .0) (at-loop .loop .inv .0), start .pre .0 .few)
 
 index-requires : tie.Need-index-requires Inv-loop μ-loop
 index-requires c κs = tt

@@ -20,7 +20,9 @@ number-requires : tie.Need-number-requires Inv-loop μ-loop
 number-requires c κs = tt
 
 element-copy-out-number-2 : tie.Need-element-copy-out-number-2 Inv-loop μ-loop
-element-copy-out-number-2 c = omega (arith, c .before .before .before .pre .0 .many, c .before .before .before .pre .1 .0 .0)
+element-copy-out-number-2 c =
+    let start = c .before .before .before in
+    omega (arith, start .pre .0 .many, start .pre .1 .0 .0)
 
 number-requires-2 : tie.Need-number-requires-2 Inv-loop μ-loop
 number-requires-2 c κs = tt
