@@ -54,7 +54,10 @@ wait-sum-requires c κs =
     record { wired = s .pre .wired; joined = s .pre .joined; long = omega (arith, kept (c .before) .kept .0 0 refl .fits); transition = omega arith }
 
 returns-3 : tie.Need-returns-3
-returns-3 c = let a = c .before .before .before .before in answers-wait (plan a) (bytes a) (kept (c .before .before)) (omega arith) (c .wait-sum .ensures)
+returns-3 c =
+    let k = c .before .before in
+    let a = k .before .before in
+    answers-wait (plan a) (bytes a) (kept k) (omega arith) (c .wait-sum .ensures)
 
 pub answer-spec : {M : Type 1} → statement M
 answer-spec =
