@@ -21,7 +21,7 @@ shared-slice-read-step-rows : tie.Need-shared-slice-read-step-rows
 shared-slice-read-step-rows c = search needs
 
 step-rows-requires : tie.Need-step-rows-requires
-step-rows-requires c κs = ready-few (c .before .before .before .before .args .rec) (c .before .before .before .before .pre)
+step-rows-requires c κs = let s = c .before .before .before .before in ready-few (s .args .rec) (s .pre)
 
 enum-told : tie.Need-enum-told
 enum-told c = search needs
