@@ -23,7 +23,9 @@ same-length : tie.Need-same-length
 same-length c = search needs
 
 returns-2 : tie.Need-returns-2
-returns-2 c = filled (c .before .before .before .before .if1 .left) (c .before .before .start-marking .ensures)
+returns-2 c =
+    let d = c .before .before in
+    filled (d .before .before .if1 .left) (d .start-marking .ensures)
 
 pub start-graph-spec : {M : Type 1} → statement M
 start-graph-spec =
