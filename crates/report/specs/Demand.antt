@@ -11,7 +11,8 @@ use Rattle.reader.specs.declared.graph.Graph.{Graph}
 use Rattle.lines.specs.Text.{waitLines}
 use Rattle.report.specs.Reply.{reportRows}
 
--- The first len bytes of the buffer end with a line for each transition of look's graph, in order; the number on each meets the three sentences of demand 3 from the start, and no other number does.
+-- The first len bytes of the buffer end with a line for each transition of look's graph, in order;
+-- the number on each meets the three sentences of demand 3 from the start, and no other number does.
 pub record WaitsPrinted (f after : List ℕ) (len : ℕ) : Type 0 where
   pub graph : Graph
   pub ends : Ends f reportRows (accepted graph)

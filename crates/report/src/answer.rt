@@ -25,7 +25,8 @@ pub fn answer<'a>(
 ) -> usize
     requires { ⌜ Good n e (now times) (now from) (now to) (now mark) (now buffers) ⌝ }
     requires { ⌜ reportBytes ≤ length (now buffer) ⌝ }
-    ensures { λ r. ⌜ Reported (rows n e (now (times .entry)) (now (from .entry)) (now (to .entry)) (now (mark .entry)) (now (buffers .entry))) (now (buffer .entry)) r (now (buffer .exit)) ⌝ }
+    ensures { λ r. ⌜ Reported (rows n e (now (times .entry)) (now (from .entry)) (now (to .entry)) (now (mark .entry)) (now (buffers .entry)))
+        (now (buffer .entry)) r (now (buffer .exit)) ⌝ }
 {
     let mut waits = [0u32; TRANSITIONS];
     start_waits(n, e, from, to, mark, &mut waits);

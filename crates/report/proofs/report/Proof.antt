@@ -22,6 +22,13 @@ good : (c : tie.After-enum-told) → let g = looked c .look .result .graph in
     Good (g .operations) (g .edges) (g .times) (g .from) (g .to) (g .mark) (g .buffers)
 good c = accepted-good _ (looked c .look .result) (c .enum-told .given .1) (looked c .look .ensures)
 
+-- From where the answer is asked for, back over the columns that are lent to it.
+abbrev lent : tie.After-answer-arg6 → tie.After-answer-arg3
+lent c = c .before .before .before
+
+abbrev told : tie.After-answer-arg6 → tie.After-enum-told
+told c = lent c .before .before .before .before .before
+
 returns : tie.Need-returns
 returns c = short (short-given (now (c .before .before .before .args .buffer)) (omega arith))
 
@@ -46,7 +53,7 @@ enum-told : tie.Need-enum-told
 enum-told c = search needs
 
 answer-requires : tie.Need-answer-requires
-answer-requires c κs = (good (c .before .before .before .before .before .before .before .before), omega arith)
+answer-requires c κs = (good (told c), omega arith)
 
 same-length-2 : tie.Need-same-length-2
 same-length-2 c = search needs
@@ -54,7 +61,7 @@ same-length-2 c = search needs
 returns-3 : tie.Need-returns-3
 returns-3 c =
     let a = c .before .before in
-    let k = a .before .before .before .before .before .before .before .before .before in
+    let k = told (a .before) in
     written (sound-next (λ _ _. omega arith) sound-none) (passed (looked k .look .ensures) (k .enum-told .given .1) sound-none) (a .answer .ensures .numbers) (a .answer .ensures .put)
 
 pub report-spec : {M : Type 1} → statement M

@@ -7,9 +7,15 @@ use borrow.Author.Needs.{needs}
 use Rattle.report.proofs.answer.answer.Statement.{statement}
 use Rattle.report.proofs.answer.answer.Tie as tie
 
--- Where all began, from where the bounds are there, and that look has accepted the graph.
+-- Where the waits are there, from where the bounds are.
+abbrev at-waits : tie.After-measure → tie.After-start-waits
+at-waits m = m .before .before .before
+
+-- Where all began, and that look has accepted the graph.
 abbrev start : tie.After-measure → tie.Start
-start m = m .before .before .before .before .before .before
+start m =
+    let w = at-waits m in
+    w .before .before .before
 
 good : (m : tie.After-measure) → let a = start m .args in
     Good (a .n) (a .e) (now (a .times)) (now (a .from)) (now (a .to)) (now (a .mark)) (now (a .buffers))
@@ -39,15 +45,17 @@ slice-aggregate-write-report-2 c = search needs
 write-report-requires : tie.Need-write-report-requires
 write-report-requires c κs =
     let m = c .before .before .before .before in
-    ring-writable (good m) (m .measure .ensures) (omega arith) (omega (arith, good m .wired .operations, m .before .before .before .start-waits .ensures .long))
+    ring-writable (good m) (m .measure .ensures) (omega arith) (omega (arith, good m .wired .operations, at-waits m .start-waits .ensures .long))
 
 same-length : tie.Need-same-length
 same-length c = search needs
 
 returns : tie.Need-returns
 returns c =
-    let m = c .before .before .before .before .before .before .before in
-    record { values = _; ring = _; wait = _; numbers = bounds-numbers (good m) (m .measure .ensures) (m .before .before .before .start-waits .ensures); put = c .before .before .write-report .ensures }
+    let p = c .before .before in
+    let m = p .before .before .before .before .before in
+    let numbers = bounds-numbers (good m) (m .measure .ensures) (at-waits m .start-waits .ensures) in
+    record { values = _; ring = _; wait = _; numbers = numbers; put = p .write-report .ensures }
 
 pub answer-spec : {M : Type 1} → statement M
 answer-spec =
