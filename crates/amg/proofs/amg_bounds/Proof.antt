@@ -1,53 +1,61 @@
+-- The reply is that of bounds: where it has them its numbers are copied out, else nothing is written.
+use mathlib.Core.Path.{_≡_, ap, sym}
+use mathlib.Core.List.{List, [], _∷_}
+use Prim.Native.Nat.{ℕ}
+use Rattle.refusal.specs.declared.Refusal.{Refusal}
+use Rattle.bounds.specs.declared.reply.Bounds.{Bounds}
+use Rattle.bounds.specs.declared.reply.Bounds.the-variants.{Bounded, Refused}
+use Rattle.bounds.specs.declared.reply.Measures.{Measures}
+use Rattle.amg.specs.Tables.{valuesIn}
 use borrow.Author.Needs.{needs}
 use Rattle.amg.proofs.amg_bounds.Statement.{statement}
 use Rattle.amg.proofs.amg_bounds.Tie as tie
-use Rattle.amg.proofs.amg_bounds.Reads as reads
-use Rattle.amg.proofs.amg_bounds.Lts as lts
-use Rattle.amg.proofs.word.bounds_word.Reads as bounds-word-reads
-use Rattle.bounds.proofs.bounds.Reads as bounds-reads
 
--- src/lib.rt:91:9
+kept : (r : Bounds) (v : List ℕ) {x : Refusal} → r ≡ Refused x → v ≡ valuesIn r v
+kept r v e = sym (ap (λ (u : Bounds). valuesIn u v) e)
+
+written : (r : Bounds) (v : List ℕ) {x : Measures} → r ≡ Bounded x → x .numerator ∷ x .denominator ∷ x .tbio ∷ x .tt ∷ x .tce ∷ [] ≡ valuesIn r v
+written r v e = sym (ap (λ (u : Bounds). valuesIn u v) e)
+
 bounds-requires : tie.Need-bounds-requires
 bounds-requires c κs = search needs
 
--- src/lib.rt:92:9
 bounds-word-requires : tie.Need-bounds-word-requires
 bounds-word-requires c κs = search needs
 
--- src/lib.rt:93:28
 enum-known-said : tie.Need-enum-known-said
 enum-known-said c = search needs
 
--- src/lib.rt:97:13
 cast-t9 : tie.Need-cast-t9
 cast-t9 c = search needs
 
--- src/lib.rt:98:13
 cast-t10 : tie.Need-cast-t10
 cast-t10 c = search needs
 
--- src/lib.rt:99:13
 cast-t11 : tie.Need-cast-t11
 cast-t11 c = search needs
 
 enum-told : tie.Need-enum-told
 enum-told c = search needs
 
--- src/lib.rt:87:1
 same-length : tie.Need-same-length
 same-length c = search needs
 
--- src/lib.rt:87:1
 returns : tie.Need-returns
-returns c = ?
+returns c =
+    let s = c .before .before .before .before .before in
+    let w = s .before .before in
+    let b = w .before .before .before .bounds in
+    record { reply = b .result; allowed = (b .ensures, written _ _ (s .said .given .1)); told = w .bounds-word .ensures }
 
--- src/lib.rt:87:1
 same-length-2 : tie.Need-same-length-2
 same-length-2 c = search needs
 
--- src/lib.rt:87:1
 returns-2 : tie.Need-returns-2
-returns-2 c = ?
+returns-2 c =
+    let w = c .before .before in
+    let b = w .before .before .before .bounds in
+    record { reply = b .result; allowed = (b .ensures, kept _ _ (c .enum-told .given .1)); told = w .bounds-word .ensures }
 
 pub amg-bounds-spec : {M : Type 1} → statement M
 amg-bounds-spec =
