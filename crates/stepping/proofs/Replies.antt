@@ -17,7 +17,6 @@ use Rattle.firing.specs.declared.step.Answer.the-variants.{Refused}
 use Rattle.firing.specs.Step.{Steps}
 use Rattle.firing.proofs.Steps.{steps-determined}
 use Rattle.running.specs.declared.repeat.Ran.{Ran}
-use Rattle.running.specs.declared.repeat.End.{End}
 use Rattle.running.specs.declared.repeat.End.the-variants.{Refused as RunRefused}
 use Rattle.running.specs.Run.{Runs}
 use Rattle.running.proofs.Determined.{runs-determined}
