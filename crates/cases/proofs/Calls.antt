@@ -15,7 +15,7 @@ use Rattle.net.specs.Good.{Good}
 use Rattle.net.proofs.Shapes.{wired-proper}
 use Rattle.reader.specs.Reply.{shown}
 use Rattle.reader.specs.declared.graph.Graph.{Graph}
-use Rattle.marking.specs.Rows.{Marking, Reachable, runRows, startRows, waitRows}
+use Rattle.accepting.specs.Rows.{Marking, Reachable, runRows, startRows, waitRows}
 use Rattle.firing.specs.Step.{LowestEmpty, Steps, waits}
 use Rattle.firing.specs.declared.step.Answer.the-variants.{Refused}
 use Rattle.stepping.specs.Replies.{AtStart}

@@ -11,7 +11,7 @@ use Rattle.file.specs.Labels.{SameButLabels}
 use Rattle.reader.specs.Reply.{shown}
 use Rattle.reader.specs.declared.graph.Graph.{Graph}
 use Rattle.reader.proofs.Outcomes.{accepted-not-refused, accepted-same, outcome-carries, outcome-determined, refusal-same}
-use Rattle.marking.specs.Rows.{runRows, startRows}
+use Rattle.accepting.specs.Rows.{runRows, startRows}
 use Rattle.firing.specs.declared.step.Answer.{Answer}
 use Rattle.firing.specs.declared.step.Answer.the-variants.{Refused}
 use Rattle.firing.specs.Step.{Steps}
