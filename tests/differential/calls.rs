@@ -1,4 +1,4 @@
-// The calls as the model makes them: each one's record, as `calls_main` and `run_main` read it, and the line that it must print.
+// The calls as the model makes them: each one's record, as `calls_main` and `plays_main` read it, and the line that it must print.
 use crate::model::{self, Graph, Refusal, look};
 
 pub const CAP: usize = 20_000;

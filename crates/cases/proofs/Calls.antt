@@ -15,7 +15,7 @@ use Rattle.net.specs.Good.{Good}
 use Rattle.net.proofs.Shapes.{wired-proper}
 use Rattle.reader.specs.Reply.{shown}
 use Rattle.reader.specs.declared.graph.Graph.{Graph}
-use Rattle.marking.specs.Rows.{Marking, Reachable, runRows, startRows, waitRows}
+use Rattle.accepting.specs.Rows.{Marking, Reachable, runRows, startRows, waitRows}
 use Rattle.firing.specs.Step.{LowestEmpty, Steps, waits}
 use Rattle.firing.specs.declared.step.Answer.the-variants.{Refused}
 use Rattle.stepping.specs.Replies.{AtStart}
@@ -68,7 +68,7 @@ module _ (g : Graph) (ok : Good (g .operations) (g .edges) (g .times) (g .from) 
         so (λ x. reached-by d e (x .0) (x .1)) (and (distances? net start 0 d) (distances? net (at m) 0 e))
 
     -- A marking that no firings lead to is refused by 11: by step and run, and by wait.
-    unreached : Marking (shown g) m → (Reachable (shown g) m → ⊥) → Given (runRows m (shown g)) (by 11 0) × ((t : ℕ) → Given (waitRows m t (shown g)) (by 11 0))
+    pub unreached : Marking (shown g) m → (Reachable (shown g) m → ⊥) → Given (runRows m (shown g)) (by 11 0) × ((t : ℕ) → Given (waitRows m t (shown g)) (by 11 0))
     unreached x y = (given-next (λ _ _. x) (given-here (by 11 0) refl (lowest-whole y)), λ t. given-next (λ _ _. x) (given-here (by 11 0) refl (lowest-whole y)))
 
     abbrev pub unreached? : (k x : ℕ) → Tried (Given (runRows m (shown g)) (by k x) × ((t : ℕ) → Given (waitRows m t (shown g)) (by k x)))

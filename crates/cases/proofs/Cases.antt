@@ -8,9 +8,9 @@ use Rattle.net.specs.Ends.{dstOf, srcOf, startAt, timeOf}
 use Rattle.file.specs.File.{backOf, edgeByte, edgesAt, edgesOf, operationsAt, operationsOf, operationTime, trailerAt}
 use Rattle.reader.proofs.Total.{look-total, lookOf}
 use Rattle.paths.specs.Modified.{nodeTime}
-use Rattle.pen.specs.Digits.{digits}
-use Rattle.pen.specs.Lines.{item, itemLine, lineEnd, pairLine, series}
-use Rattle.lines.specs.Text.{boundLines, circuitLine, headText, opsLine, reportText, ringPlaces, waitLines}
+use Rattle.pen.specs.Digits.{digits, digitsBy}
+use Rattle.pen.specs.Lines.{item, itemLine, lineEnd, pairLine}
+use Rattle.report_lines.specs.Text.{boundLines, circuitLine, headText, opsLine, reportText, ringPlaces, waitLines}
 use Rattle.cases.specs.Files.{fileOf}
 use Rattle.cases.specs.Table.{Case, P1-to-P10, True, case, table}
 use Rattle.cases.proofs.Trying.{Tried, every, given}
@@ -22,5 +22,5 @@ case? (case times edges said) = let f = fileOf times edges in every (said? f (lo
 
 -- P1 to P10 hold.
 pub cases-hold : P1-to-P10
-unfolding lookOf trailerAt operationsAt operationsOf edgesAt edgesOf backOf operationTime edgeByte word quad srcOf dstOf startAt timeOf sum upto others nodeTime ℕ-discrete reportText headText opsLine boundLines circuitLine ringPlaces waitLines item itemLine pairLine lineEnd series digits
+unfolding lookOf trailerAt operationsAt operationsOf edgesAt edgesOf backOf operationTime edgeByte word quad srcOf dstOf startAt timeOf sum upto others nodeTime ℕ-discrete reportText headText opsLine boundLines circuitLine ringPlaces waitLines item itemLine pairLine lineEnd digits digitsBy
 cases-hold = given (every case? table) tt

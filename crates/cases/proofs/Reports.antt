@@ -8,7 +8,7 @@ use lib.Seq.{sets}
 use Rattle.marked.specs.Net.{at}
 use Rattle.marked.proofs.Decide.{both?, eq?, le?, same?}
 use Rattle.net.specs.Plan.{Plan}
-use Rattle.paths.specs.Longest.{DataSink, Sink, effort}
+use Rattle.paths.specs.Longest.{DataSink, Sink, TBIO, TT, effort}
 use Rattle.pen.specs.Lines.{Put}
 use Rattle.bounds.specs.declared.reply.Measures.{Measures}
 use Rattle.report.specs.Reply.{Numbers}
@@ -27,14 +27,14 @@ lists? (x ∷ xs) (y ∷ ys) = same? (λ h. let a = h .0 in let b = h .1 in cc) 
 
 -- A text at the beginning of a buffer that has room.
 pub text-put : (before text : List ℕ) {t : List ℕ} → t ≡ text → length text ≤ length before → Put before 0 t (text ++ drop (length text) before) (length text)
-text-put before text e h = record { place = sym (ap length e); stands = sym (sets-front text before h) ∙ ap (sets before 0) (sym e) }
+text-put before text e h = record { place = omega (arith, ap length e); stands = sym (sets-front text before h) ∙ ap (sets before 0) (sym e) }
 
 module _ (g : Plan) where
   -- TBIO and TT,
-  abbrev pub tbio? : (r : ℕ) → Tried _
+  abbrev pub tbio? : (r : ℕ) → Tried (TBIO g r)
   tbio? r = sum? g (DataSink g) (λ u. eq? u (g .operations + 1)) r
 
-  abbrev pub tt? : (r : ℕ) → Tried _
+  abbrev pub tt? : (r : ℕ) → Tried (TT g r)
   tt? r = sum? g (Sink g) (λ u. le? (g .operations + 1) u) r
 
   -- and all numbers of a report.

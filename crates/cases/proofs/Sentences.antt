@@ -22,14 +22,15 @@ use Rattle.stepping.specs.Replies.{refused as run-refused, started, stepped}
 use Rattle.waiting.specs.Reply.{refused as wait-refused}
 use Rattle.bounds.specs.declared.reply.Measures.{Measures}
 use Rattle.report.specs.Reply.{reportBytes, textOf, written}
-use Rattle.cases.specs.Said.{Along, Begun, Holds, LookRefuses, MarkingRefused, NoCircuit, Of, ReportIs, Said, StepRefuses, by, circuit-is, edge, marking-refused, no-circuit, onward, refused, report-is, step-refused, tbio-is, tbo-is, tt-is}
+use Rattle.cases.specs.Said.{Along, Begun, Holds, LookRefuses, MarkingRefused, NoCircuit, Of, ReportIs, StepRefuses, by, edge, onward}
+use Rattle.cases.specs.Said.{Said, circuit-is, marking-refused, no-circuit, refused, report-is, step-refused, tbio-is, tbo-is, tt-is}
 use Rattle.cases.proofs.Trying.{Tried, and, fails, so, try}
 use Rattle.cases.proofs.Bounds.{tbo?, the-circuit?}
 use Rattle.cases.proofs.Reports.{lists?, numbers?, tbio?, tt?, text-put}
 use Rattle.cases.proofs.Calls.{began, begun?, step?, unreached?, zeros}
 
 -- Edges that lead to a higher node close no circuit.
-rising : (g : Plan) → ((e : ℕ) → e < g .edges → g .from e < g .to e) → {a b : ℕ} → Along g a b → a < b
+pub rising : (g : Plan) → ((e : ℕ) → e < g .edges → g .from e < g .to e) → {a b : ℕ} → Along g a b → a < b
 rising g up (edge e l) = up e l
 rising g up (onward e l w) = omega (arith, up e l, rising g up w)
 
@@ -56,7 +57,7 @@ module _ (f : List ℕ) (r : Look) (h : LookReply f r) where
   of? t (Refused s) e = fails
 
   module _ (e : r .verdict ≡ Accepted) where
-    good : Good (r .graph .operations) (r .graph .edges) (r .graph .times) (r .graph .from) (r .graph .to) (r .graph .mark) (r .graph .buffers)
+    pub good : Good (r .graph .operations) (r .graph .edges) (r .graph .times) (r .graph .from) (r .graph .to) (r .graph .mark) (r .graph .buffers)
     good = accepted-good f r e h
 
     -- The marking that start leaves.

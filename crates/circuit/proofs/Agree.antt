@@ -14,8 +14,8 @@ use Rattle.net.specs.Ends.{dstOf, srcOf}
 use Rattle.fraction.specs.helpers.Loaded.{Loaded}
 use Rattle.net.specs.Good.{Wired}
 use Rattle.net.proofs.Shapes.{dst-back, dst-empty, dst-full, dst-op, src-empty, src-full, src-op}
-use Rattle.tight.specs.helpers.Lists.{Headed, Threaded, Listed, Listing, Next, TightIn, drawn}
-use Rattle.search.specs.helpers.Ways.{Cut, First, Rival}
+use Rattle.circuit_tight.specs.helpers.Lists.{Headed, Threaded, Listed, Listing, Next, TightIn, drawn}
+use Rattle.circuit_search.specs.helpers.Ways.{Cut, First, Rival}
 
 -- Places of T in g are places of U in h, with the same ends.
 pub record Carries (g h : Net) (T U : ℕ → Type 0) : Type 0 where

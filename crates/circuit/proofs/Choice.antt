@@ -16,7 +16,7 @@ use Rattle.marked.proofs.Entries.{all-append, all-left, all-map, all-right}
 use Rattle.marked.proofs.Rotate.{Lowest, lowest, rotate}
 use Rattle.marked.proofs.Sizes.{walk-places}
 use Rattle.marked.proofs.Walks.{rest, starts}
-use Rattle.search.specs.helpers.Ways.{Cut, First, Rival}
+use Rattle.circuit_search.specs.helpers.Ways.{Cut, First, Rival}
 use Rattle.circuit.specs.Chosen.{Chosen}
 
 module _ {g : Net} {T : ℕ → Type 0} where

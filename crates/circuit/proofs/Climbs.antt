@@ -11,9 +11,9 @@ use Rattle.marked.specs.Circuits.{froms}
 use Rattle.marked.proofs.Entries.{distinct-cross}
 use Rattle.marked.proofs.Pigeonhole.{pigeonhole}
 use Rattle.marked.proofs.Walks.{ends-same, froms-append, join, length-froms, part, starts, stays}
-use Rattle.tight.specs.helpers.Lists.{Threaded, Listed, drawn}
-use Rattle.search.specs.helpers.Ways.{FirstNoted, Rival, Trace}
-use Rattle.search.specs.helpers.Ways.Trace.{start, step}
+use Rattle.circuit_tight.specs.helpers.Lists.{Threaded, Listed, drawn}
+use Rattle.circuit_search.specs.helpers.Ways.{FirstNoted, Rival, Trace}
+use Rattle.circuit_search.specs.helpers.Ways.Trace.{start, step}
 
 module _ {g : Net} {T : ℕ → Type 0} where
   -- Where places of T leave from transitions, a way of them does.

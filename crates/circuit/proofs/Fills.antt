@@ -8,8 +8,8 @@ use native.Mathlib.Decide.{decLt}
 use lib.ListN.{List·getD-append, drop, length, length-append, length-drop, length-set, set}
 use lib.Seq.{ext-getD, getD-append-add, getD-drop, getD-set-other, getD-set-same}
 use Rattle.marked.specs.Net.{at}
-use Rattle.tight.specs.helpers.Lists.{Threaded, Listed, drawn}
-use Rattle.search.specs.helpers.Ways.{FirstNoted}
+use Rattle.circuit_tight.specs.helpers.Lists.{Threaded, Listed, drawn}
+use Rattle.circuit_search.specs.helpers.Ways.{FirstNoted}
 use Rattle.circuit.specs.helpers.Writing.{WayCounted, Written}
 use Rattle.circuit.proofs.Climbs.{Climb, climb-end, climb-left, climb-on, climb-start, way-short}
 

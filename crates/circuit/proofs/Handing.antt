@@ -10,10 +10,10 @@ use Rattle.net.specs.Graph.{netOf}
 use Rattle.fraction.specs.helpers.Loaded.{Loaded, Weighted, loaded}
 use Rattle.fraction.proofs.Loads.{weighted-proper}
 use Rattle.tbo.specs.helpers.LargestBy.{LargestBy}
-use Rattle.tight.specs.helpers.Lists.{Headed, Lengthened, Threaded, Listed, Listing, TightIn, drawn}
-use Rattle.tight.proofs.ListRows.{listing-start}
-use Rattle.search.specs.helpers.Ways.{Cut, FirstNoted}
-use Rattle.search.specs.helpers.Turns.{LowestBack}
+use Rattle.circuit_tight.specs.helpers.Lists.{Headed, Lengthened, Threaded, Listed, Listing, TightIn, drawn}
+use Rattle.circuit_tight.proofs.ListRows.{listing-start}
+use Rattle.circuit_search.specs.helpers.Ways.{Cut, FirstNoted}
+use Rattle.circuit_search.specs.helpers.Turns.{LowestBack}
 use Rattle.circuit.specs.helpers.Writing.{Written}
 use Rattle.circuit.specs.Chosen.{Handed}
 use Rattle.circuit.proofs.Agree.{cut-move, ends-apart, first-move, headed, into, onto, threaded}

@@ -4,7 +4,7 @@ mod write;
 use net::EDGES;
 use net::PLACES;
 use net::TRANSITIONS;
-use tight::LOOSE;
+use circuit_tight::LOOSE;
 ghost use Prim.Native.Nat.{_+_, _*_, _≤_};
 ghost use lib.ListN.{length};
 ghost use Rattle.marked.specs.Net.{at};
@@ -40,7 +40,7 @@ pub fn choose(
     let mut next = [0u16; PLACES];
     let mut src = [0u8; PLACES];
     let mut dst = [LOOSE; PLACES];
-    tight::list_tight(
+    circuit_tight::list_tight(
         n,
         e,
         from,
@@ -56,6 +56,6 @@ pub fn choose(
         &mut dst,
     );
     let mut via = [0u16; TRANSITIONS];
-    let p = search::first(nt, np, &head, &next, &src, &dst, &mut via);
+    let p = circuit_search::first(nt, np, &head, &next, &src, &dst, &mut via);
     write::hand_out(nt, np, &next, &src, &dst, &via, p, ring)
 }

@@ -7,8 +7,8 @@ ghost use mathlib.Core.Logic.{_≢_};
 ghost use Prim.Native.Nat.{_<_, _≤_};
 ghost use lib.ListN.{length};
 ghost use Rattle.marked.specs.Net.{at};
-ghost use Rattle.tight.specs.helpers.Lists.{Threaded, Listed, drawn};
-ghost use Rattle.search.specs.helpers.Ways.{FirstNoted};
+ghost use Rattle.circuit_tight.specs.helpers.Lists.{Threaded, Listed, drawn};
+ghost use Rattle.circuit_search.specs.helpers.Ways.{FirstNoted};
 ghost use Rattle.circuit.specs.helpers.Writing.{WayCounted, Written};
 
 // How many places the circuit has: those that lead back from goal to root, and the one before them.

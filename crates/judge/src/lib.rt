@@ -4,8 +4,8 @@ mod operations;
 mod tokens;
 
 use edges::first_wrong;
-use links::joined::first_apart;
-use links::linked::first_bare;
+use judge_links::joined::first_apart;
+use judge_links::linked::first_bare;
 use net::EDGES;
 use net::OPERATIONS;
 use operations::first_late;

@@ -9,7 +9,7 @@ use lib.Seq.{ext-getD}
 use Rattle.marked.specs.Net.{at}
 use Rattle.net.specs.Limits.{Within}
 use Rattle.net.specs.Plan.{Agree, Plan}
-use Rattle.tables.specs.Filled.{Filled}
+use Rattle.reader_tables.specs.Filled.{Filled}
 use Rattle.reader.specs.Reply.{Shows, shown}
 use Rattle.reader.specs.declared.graph.Graph.{Graph}
 

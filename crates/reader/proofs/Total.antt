@@ -19,7 +19,7 @@ use Rattle.file.specs.File.{operationsOf, edgesOf, planOf}
 use Rattle.file.specs.Frame.{CountsKept, Framed, Laid, Signed, Sized, frameRows, lookRows}
 use Rattle.file.proofs.Order.{framed-sound, refused-1, refused-2, refused-3, refused-4, sound-framed}
 use Rattle.judge.proofs.Deciding.{Verdicts, graph-verdict}
-use Rattle.tables.specs.Filled.{Filled}
+use Rattle.reader_tables.specs.Filled.{Filled}
 use Rattle.reader.specs.Reply.{Shows, Beside, LookReply}
 use Rattle.reader.specs.declared.graph.Graph.{Graph}
 use Rattle.reader.specs.declared.graph.Look.{Look}

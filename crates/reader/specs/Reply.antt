@@ -10,7 +10,7 @@ use Rattle.net.specs.Limits.{mostEdges, mostOperations}
 use Rattle.net.specs.Plan.{Plan, rows}
 use Rattle.file.specs.File.{operationsOf, edgesOf, planOf}
 use Rattle.file.specs.Frame.{lookRows}
-use Rattle.tables.specs.Filled.{Filled}
+use Rattle.reader_tables.specs.Filled.{Filled}
 use Rattle.reader.specs.declared.graph.Graph.{Graph}
 use Rattle.reader.specs.declared.graph.Look.{Look}
 

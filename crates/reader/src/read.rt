@@ -1,8 +1,8 @@
 // The graph of a file whose frame is right, and the graph of a file that is refused.
 use crate::graph::Graph;
 use file::frame::Trailer;
-use tables::edges::column;
-use tables::operations::times;
+use reader_tables::edges::column;
+use reader_tables::operations::times;
 ghost use Rattle.net.specs.Plan.{Plan};
 ghost use Rattle.file.specs.File.{edgesOf, operationsOf, planOf};
 ghost use Rattle.reader.specs.Reply.{Shows};

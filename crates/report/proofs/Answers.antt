@@ -14,7 +14,7 @@ use Rattle.net.specs.Good.{Good}
 use Rattle.net.proofs.Shapes.{wired-proper}
 use Rattle.bounds.specs.Reply.{BoundsOf}
 use Rattle.bounds.specs.declared.reply.Measures.{Measures}
-use Rattle.lines.specs.helpers.Limits.{Writable}
+use Rattle.report_lines.specs.helpers.Limits.{Writable}
 use Rattle.report.specs.Reply.{Numbers, reportBytes}
 use Rattle.report.specs.helpers.Waited.{Waited}
 use Rattle.report.proofs.Small.{tbo-small}

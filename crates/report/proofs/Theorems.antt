@@ -26,8 +26,8 @@ use Rattle.circuit.specs.Chosen.{Chosen}
 use Rattle.circuit.proofs.Unique.{chosen-unique}
 use Rattle.bounds.specs.declared.reply.Measures.{Measures}
 use Rattle.pen.proofs.PutLaws.{series-same, put-length, put-unique}
-use Rattle.lines.specs.Text.{refusedLine, reportText, waitLine, waitLines, waitOf}
-use Rattle.lines.proofs.FitLaws.{refused-fits}
+use Rattle.report_lines.specs.Text.{refusedLine, reportText, waitLine, waitLines, waitOf}
+use Rattle.report_lines.proofs.FitLaws.{refused-fits}
 use Rattle.report.specs.Reply.{Numbers, ReportReply, lengthOf, refused, reportBytes, reportRows, roomRows, short, textOf, written}
 use Rattle.report.specs.declared.reply.Report.{Report}
 use Rattle.report.specs.declared.reply.Report.the-variants.{Refused, Written}

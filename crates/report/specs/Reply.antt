@@ -16,7 +16,7 @@ use Rattle.paths.specs.Longest.{TBIO, TCE, TT}
 use Rattle.circuit.specs.Chosen.{Chosen}
 use Rattle.bounds.specs.declared.reply.Measures.{Measures}
 use Rattle.pen.specs.Lines.{Put}
-use Rattle.lines.specs.Text.{refusedLine, reportText}
+use Rattle.report_lines.specs.Text.{refusedLine, reportText}
 use Rattle.report.specs.declared.reply.Report.{Report}
 use Rattle.report.specs.declared.reply.Report.the-variants.{Refused, Written}
 

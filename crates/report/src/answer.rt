@@ -1,7 +1,7 @@
 // The report of a graph that look has accepted, where it has room: its waits, its bounds and the text.
 use crate::waits::start_waits;
 use bounds::measure::measure;
-use lines::write_report;
+use report_lines::write_report;
 use net::EDGES;
 use net::OPERATIONS;
 use net::TRANSITIONS;

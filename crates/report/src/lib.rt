@@ -4,7 +4,7 @@ pub mod reply;
 mod waits;
 
 use answer::answer;
-use lines::write_refused;
+use report_lines::write_refused;
 use reader::look;
 use refusal::Refusal;
 use refusal::Verdict;

@@ -13,7 +13,7 @@ pub struct RunRecord {
 }
 
 // The record after an entry, and the entry's answer.
-pub struct Taken {
+pub struct AfterEntry {
     pub rec: RunRecord,
     pub answer: Answer,
 }
@@ -26,7 +26,7 @@ pub fn entry_core<'a>(
     from: &'a [u8; EDGES],
     to: &'a [u8; EDGES],
     list: &'a [u16],
-) -> Taken
+) -> AfterEntry
     requires { ⌜ EntryReady n (now from) (now to) rec (now marking) (now list) ⌝ }
     ensures { λ r. ⌜ EntryTaken n (now (from .entry)) (now (to .entry)) rec (now (marking .entry)) (now (list .entry)) (r .answer) (r .rec)
         (now (marking .exit)) ⌝ }
@@ -40,12 +40,12 @@ pub fn entry_core<'a>(
             next: next + 1,
             fired: rec.fired + 1,
         };
-        return Taken {
+        return AfterEntry {
             rec: after,
             answer: Answer::Fired,
         };
     }
-    Taken {
+    AfterEntry {
         rec: rec,
         answer: answer,
     }
@@ -77,14 +77,14 @@ pub fn take<'a>(
     from: &'a [u8; EDGES],
     to: &'a [u8; EDGES],
     list: &'a [u16],
-) -> Taken
+) -> AfterEntry
     requires { ⌜ EntryReady n (now from) (now to) rec (now marking) (now list) ⌝ }
     ensures { λ r. ⌜ EntryTaken n (now (from .entry)) (now (to .entry)) rec (now (marking .entry)) (now (list .entry)) (r .answer) (r .rec)
         (now (marking .exit)) ⌝ }
 {
     let mut lent = rec;
     let answer = entry(&mut lent, marking, n, from, to, list);
-    Taken {
+    AfterEntry {
         rec: lent,
         answer: answer,
     }

@@ -20,7 +20,7 @@ use Rattle.reader.specs.declared.graph.Look.{Look}
 use Rattle.reader.proofs.Accepting.{accepted-good}
 use Rattle.reader.proofs.Determined.{look-determined}
 use Rattle.reader.proofs.Outcomes.{accepted-not-refused, accepted-same, outcome-determined}
-use Rattle.marking.specs.Rows.{BytePerPlace, Reachable, runRows}
+use Rattle.accepting.specs.Rows.{BytePerPlace, Reachable, runRows}
 use Rattle.firing.specs.declared.step.Answer.{Answer}
 use Rattle.firing.specs.declared.step.Answer.the-variants.{Fired, Refused}
 use Rattle.firing.specs.Step.{Steps}

@@ -11,13 +11,12 @@ use Rattle.file.specs.Labels.{SameButLabels}
 use Rattle.reader.specs.Reply.{shown}
 use Rattle.reader.specs.declared.graph.Graph.{Graph}
 use Rattle.reader.proofs.Outcomes.{accepted-not-refused, accepted-same, outcome-carries, outcome-determined, refusal-same}
-use Rattle.marking.specs.Rows.{runRows, startRows}
+use Rattle.accepting.specs.Rows.{runRows, startRows}
 use Rattle.firing.specs.declared.step.Answer.{Answer}
 use Rattle.firing.specs.declared.step.Answer.the-variants.{Refused}
 use Rattle.firing.specs.Step.{Steps}
 use Rattle.firing.proofs.Steps.{steps-determined}
 use Rattle.running.specs.declared.repeat.Ran.{Ran}
-use Rattle.running.specs.declared.repeat.End.{End}
 use Rattle.running.specs.declared.repeat.End.the-variants.{Refused as RunRefused}
 use Rattle.running.specs.Run.{Runs}
 use Rattle.running.proofs.Determined.{runs-determined}

@@ -9,7 +9,7 @@ use Rattle.net.specs.Graph.{netOf, startOf}
 use Rattle.reader.specs.Reply.{shown}
 use Rattle.reader.specs.Outcome.{Ends, accepted, refusal}
 use Rattle.reader.specs.declared.graph.Graph.{Graph}
-use Rattle.marking.specs.Rows.{BytePerPlace, runRows, startRows}
+use Rattle.accepting.specs.Rows.{BytePerPlace, runRows, startRows}
 use Rattle.firing.specs.declared.step.Answer.{Answer}
 use Rattle.firing.specs.declared.step.Answer.the-variants.{Refused}
 use Rattle.firing.specs.Step.{Steps}

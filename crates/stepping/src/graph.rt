@@ -2,7 +2,7 @@
 use crate::reply::Start;
 use firing::step::Answer;
 use firing::step::step_rows;
-use marking::accepts::accepts;
+use accepting::accepts::accepts;
 use net::EDGES;
 use net::start::start_marking;
 use refusal::Refusal;
@@ -11,7 +11,7 @@ use running::repeat::End;
 use running::repeat::Ran;
 use running::repeat::run_rows;
 ghost use Rattle.net.specs.Good.{Marked};
-ghost use Rattle.marking.specs.helpers.Wiring.{GoodWiring, plotted};
+ghost use Rattle.accepting.specs.helpers.Wiring.{GoodWiring, plotted};
 ghost use Rattle.stepping.specs.helpers.Work.{GraphRun, GraphStarted, GraphStepped};
 
 // What stood in the buffer is no fault: only its length is tested.

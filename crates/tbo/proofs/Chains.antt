@@ -8,7 +8,7 @@ use lib.ListN.{length}
 use Rattle.marked.specs.Lists.{All}
 use Rattle.marked.specs.Sums.{sum}
 use Rattle.marked.specs.Net.{Net, Proper, Walk, go, lasts, stop, tokens}
-use Rattle.sweep.specs.helpers.Raises.{Noted, NoRise}
+use Rattle.tbo_sweep.specs.helpers.Raises.{Noted, NoRise}
 use Rattle.tbo.specs.helpers.Chains.{Notes, back, behind}
 use Rattle.tbo.proofs.Steadies.{Steady}
 use Rattle.tbo.proofs.Crowd.{crowded}

@@ -7,9 +7,9 @@ use Rattle.marked.specs.Net.{Net, Proper}
 use Rattle.marked.specs.Bounds.{Certifies}
 use Rattle.marked.proofs.Find.{above}
 use Rattle.net.specs.Limits.{mostTransitions}
-use Rattle.sweep.specs.helpers.Places.{Every}
-use Rattle.sweep.specs.helpers.Raises.{SweptOver}
-use Rattle.sweep.proofs.Lifting.{lifts-up}
+use Rattle.tbo_sweep.specs.helpers.Places.{Every}
+use Rattle.tbo_sweep.specs.helpers.Raises.{SweptOver}
+use Rattle.tbo_sweep.proofs.Lifting.{lifts-up}
 use Rattle.tbo.specs.helpers.Chains.{Round, Tour, Turns, back}
 use Rattle.tbo.proofs.Chains.{Sweeps, back-in, comes-round, no-end, notes-of, sweeps-snoc}
 use Rattle.tbo.proofs.Chains.Sweeps.{begun}

@@ -9,9 +9,9 @@ use lib.ListN.{length}
 use Rattle.marked.specs.Lists.{All}
 use Rattle.marked.specs.Sums.{sum}
 use Rattle.marked.specs.Net.{Net, Walk, go, lasts, stop, tokens}
-use Rattle.sweep.specs.helpers.Raises.{Lift, Lifts, Noted}
-use Rattle.sweep.specs.helpers.Raises.Lifts.{more, none}
-use Rattle.sweep.proofs.Lifting.{lift-up}
+use Rattle.tbo_sweep.specs.helpers.Raises.{Lift, Lifts, Noted}
+use Rattle.tbo_sweep.specs.helpers.Raises.Lifts.{more, none}
+use Rattle.tbo_sweep.proofs.Lifting.{lift-up}
 
 -- What holds of potentials D and notes P that were raised from C and from no notes: notes name places, noted places are tight or better, and closed walks of noted places have more time per
 -- token than a / b.

@@ -4,11 +4,11 @@ use crate::round::Ring;
 use net::EDGES;
 use net::PLACES;
 use net::TRANSITIONS;
-use order::ITEMS;
-use sweep::NONE;
+use tbo_order::ITEMS;
+use tbo_sweep::NONE;
 ghost use Rattle.fraction.specs.helpers.Loaded.{Pair, Weighted, loaded};
-ghost use Rattle.order.specs.helpers.Items.{Ordered};
-ghost use Rattle.sweep.specs.helpers.Raises.{Level};
+ghost use Rattle.tbo_order.specs.helpers.Items.{Ordered};
+ghost use Rattle.tbo_sweep.specs.helpers.Raises.{Level};
 ghost use Rattle.tbo.specs.helpers.Improved.{Improved, lowly};
 
 // A certificate, or a closed walk that has more.
@@ -39,7 +39,7 @@ pub fn improve(
     // The proof that the sweeps end counts them.
     let mut k: usize = 0;
     loop {
-        let v = sweep::sweep(n, e, from, to, marking, times, ord, a, b, d, &mut pred);
+        let v = tbo_sweep::sweep(n, e, from, to, marking, times, ord, a, b, d, &mut pred);
         if v == NONE {
             return Improvement::Certified;
         }

@@ -9,7 +9,7 @@ use improve::Improvement;
 use net::EDGES;
 use net::PLACES;
 use net::TRANSITIONS;
-use order::ITEMS;
+use tbo_order::ITEMS;
 ghost use mathlib.Core.Path.{_≡_};
 ghost use Prim.Native.Nat.{_+_, _*_, _<_, _≤_};
 ghost use Rattle.marked.specs.Net.{at};
@@ -18,7 +18,7 @@ ghost use Rattle.net.specs.Limits.{mostOperations};
 ghost use Rattle.net.specs.Plan.{wires};
 ghost use Rattle.net.specs.Graph.{netOf};
 ghost use Rattle.fraction.specs.helpers.Loaded.{Weighted, loaded};
-ghost use Rattle.sweep.specs.helpers.Raises.{Level};
+ghost use Rattle.tbo_sweep.specs.helpers.Raises.{Level};
 ghost use Rattle.tbo.specs.helpers.LargestBy.{LargestBy};
 
 // What the ring of the operation in row i takes: the sum of its three transition times.
@@ -81,7 +81,7 @@ pub fn largest(
         (now (d .exit)) ⌝ }
 {
     let mut ord = [0u8; ITEMS];
-    order::order(n, e, from, to, marking, &mut ord);
+    tbo_order::order(n, e, from, to, marking, &mut ord);
     let i = slowest(n, times);
     let mut a = ring_time(times, i);
     let mut b = ring_tokens(marking, i);

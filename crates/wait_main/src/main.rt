@@ -7,13 +7,13 @@ use keep::keeps;
 use net::EDGES;
 use net::PLACES;
 use net::start::start_marking;
-use reader::graph::Verdict;
+use refusal::Verdict;
 use reader::look;
 use waiting::reply::Wait;
 use waiting::wait;
 ghost use mathlib.Core.Path.{_≡_};
 ghost use lib.ListN.{length};
-ghost use Rattle.net.specs.Valid.{Single, Valid};
+ghost use Rattle.net.specs.Good.{Marked, Wired};
 
 fn number(label: &[u8], x: u64) {
     io::write_all(1, label);
@@ -30,7 +30,7 @@ fn line<'a>(
     m: &[u8; PLACES],
     t: u16,
 )
-    requires { ⌜ Valid n e (now from) (now to) ⌝ }
+    requires { ⌜ Wired n e (now from) (now to) ⌝ }
     requires { ⌜ length (now m) ≡ 376 ⌝ }
 {
     let places = 3 * n + 2 * e;
@@ -56,7 +56,7 @@ fn lines<'a>(
     to: &'a [u8; EDGES],
     m: &[u8; PLACES],
 )
-    requires { ⌜ Valid n e (now from) (now to) ⌝ }
+    requires { ⌜ Wired n e (now from) (now to) ⌝ }
     requires { ⌜ length (now m) ≡ 376 ⌝ }
 {
     let end = (3 * n + 2) as u16;
@@ -77,7 +77,7 @@ fn after<'a>(
     m: &[u8; PLACES],
     times: u32,
 )
-    requires { ⌜ Valid n e (now from) (now to) ⌝ }
+    requires { ⌜ Wired n e (now from) (now to) ⌝ }
     requires { ⌜ length (now m) ≡ 376 ⌝ }
 {
     let places = 3 * n + 2 * e;
@@ -97,8 +97,8 @@ fn show<'a>(
     to: &'a [u8; EDGES],
     mark: &'a [u8; EDGES],
 )
-    requires { ⌜ Valid n e (now from) (now to) ⌝ }
-    requires { ⌜ Single n e (now mark) ⌝ }
+    requires { ⌜ Wired n e (now from) (now to) ⌝ }
+    requires { ⌜ Marked n e (now mark) ⌝ }
 {
     let mut m = [0u8; PLACES];
     start_marking(n, e, mark, &mut m);

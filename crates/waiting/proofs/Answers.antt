@@ -14,8 +14,8 @@ use Rattle.net.specs.Graph.{netOf}
 use Rattle.reader.specs.Reply.{LookReply}
 use Rattle.reader.specs.Outcome.{passed, refused as stopped, unread}
 use Rattle.reader.specs.declared.graph.Look.{Look}
-use Rattle.marking.specs.Rows.{row12, runRows}
-use Rattle.marking.specs.helpers.Wiring.{plotted}
+use Rattle.accepting.specs.Rows.{row12, runRows}
+use Rattle.accepting.specs.helpers.Wiring.{plotted}
 use Rattle.waiting.specs.Reply.{WaitReply}
 use Rattle.waiting.specs.Reply.WaitReply.{refused as reply-refused, waits as reply-waits}
 use Rattle.waiting.specs.helpers.Work.{GraphWaits}

@@ -16,7 +16,7 @@ use Rattle.reader.specs.declared.graph.Look.{Look}
 use Rattle.reader.proofs.Accepting.{accepted-good}
 use Rattle.reader.proofs.Determined.{look-determined}
 use Rattle.reader.proofs.Outcomes.{accepted-not-refused, accepted-same, outcome-carries, outcome-determined, refusal-same}
-use Rattle.marking.specs.Rows.{waitRows}
+use Rattle.accepting.specs.Rows.{waitRows}
 use Rattle.waiting.specs.Reply.{WaitReply}
 use Rattle.waiting.specs.Reply.WaitReply.{refused, waits}
 use Rattle.waiting.specs.Demand.{Demanded}

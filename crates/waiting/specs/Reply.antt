@@ -8,7 +8,7 @@ use Rattle.net.specs.Graph.{netOf}
 use Rattle.reader.specs.Reply.{shown}
 use Rattle.reader.specs.Outcome.{Ends, accepted, refusal}
 use Rattle.reader.specs.declared.graph.Graph.{Graph}
-use Rattle.marking.specs.Rows.{waitRows}
+use Rattle.accepting.specs.Rows.{waitRows}
 use Rattle.waiting.specs.declared.reply.Wait.{Wait}
 use Rattle.waiting.specs.declared.reply.Wait.the-variants.{Refused, Waits}
 

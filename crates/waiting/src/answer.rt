@@ -1,11 +1,11 @@
 // The reply for a graph that look has accepted: rows 10 to 12, then the wait.
 use crate::reply::Wait;
 use crate::sum::wait_sum;
-use marking::accepts::accepts;
+use accepting::accepts::accepts;
 use net::EDGES;
 use refusal::Refusal;
 use refusal::Verdict;
-ghost use Rattle.marking.specs.helpers.Wiring.{GoodWiring, plotted};
+ghost use Rattle.accepting.specs.helpers.Wiring.{GoodWiring, plotted};
 ghost use Rattle.waiting.specs.helpers.Work.{GraphWaits};
 
 pub fn answer<'a>(

@@ -2,12 +2,12 @@
 use mathlib.Core.Path.{_≡_, ap, sym}
 use mathlib.Core.List.{List, [], _∷_}
 use Prim.Native.Nat.{ℕ}
-use borrow.Author.Needs.{needs}
 use Rattle.refusal.specs.declared.Refusal.{Refusal}
-use Rattle.bounds.specs.declared.reply.Measures.{Measures}
 use Rattle.bounds.specs.declared.reply.Bounds.{Bounds}
 use Rattle.bounds.specs.declared.reply.Bounds.the-variants.{Bounded, Refused}
+use Rattle.bounds.specs.declared.reply.Measures.{Measures}
 use Rattle.amg.specs.Tables.{valuesIn}
+use borrow.Author.Needs.{needs}
 use Rattle.amg.proofs.amg_bounds.Statement.{statement}
 use Rattle.amg.proofs.amg_bounds.Tie as tie
 
@@ -26,14 +26,14 @@ bounds-word-requires c κs = search needs
 enum-known-said : tie.Need-enum-known-said
 enum-known-said c = search needs
 
-cast-t14 : tie.Need-cast-t14
-cast-t14 c = search needs
+cast-t9 : tie.Need-cast-t9
+cast-t9 c = search needs
 
-cast-t15 : tie.Need-cast-t15
-cast-t15 c = search needs
+cast-t10 : tie.Need-cast-t10
+cast-t10 c = search needs
 
-cast-t16 : tie.Need-cast-t16
-cast-t16 c = search needs
+cast-t11 : tie.Need-cast-t11
+cast-t11 c = search needs
 
 enum-told : tie.Need-enum-told
 enum-told c = search needs
@@ -43,7 +43,7 @@ same-length c = search needs
 
 returns : tie.Need-returns
 returns c =
-    let s = c .before .before in
+    let s = c .before .before .before .before .before in
     let w = s .before .before in
     let b = w .before .before .before .bounds in
     record { reply = b .result; allowed = (b .ensures, written _ _ (s .said .given .1)); told = w .bounds-word .ensures }
@@ -64,9 +64,9 @@ amg-bounds-spec =
     bounds-requires
     bounds-word-requires
     enum-known-said
-    cast-t14
-    cast-t15
-    cast-t16
+    cast-t9
+    cast-t10
+    cast-t11
     enum-told
     same-length
     returns

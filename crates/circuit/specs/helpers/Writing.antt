@@ -4,8 +4,8 @@ use mathlib.Core.List.{List, _++_, _∷_}
 use Prim.Native.Nat.{_+_, ℕ}
 use lib.ListN.{drop, length}
 use Rattle.marked.specs.Net.{at}
-use Rattle.tight.specs.helpers.Lists.{Listed, drawn}
-use Rattle.search.specs.helpers.Ways.{First, FirstNoted}
+use Rattle.circuit_tight.specs.helpers.Lists.{Listed, drawn}
+use Rattle.circuit_search.specs.helpers.Ways.{First, FirstNoted}
 
 -- The way that via notes has one place less than k.
 pub record WayCounted (nt np : ℕ) (src dst : List ℕ) (root goal : ℕ) (via : List ℕ) (k : ℕ) : Type 0 where

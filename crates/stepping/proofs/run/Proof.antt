@@ -2,8 +2,8 @@
 use denote.Ref.{now}
 use borrow.Author.Needs.{needs}
 use Rattle.reader.proofs.Accepting.{accepted-good}
-use Rattle.marking.specs.helpers.Wiring.{GoodWiring}
-use Rattle.marking.proofs.Judging.{good-wiring}
+use Rattle.accepting.specs.helpers.Wiring.{GoodWiring}
+use Rattle.accepting.proofs.Judging.{good-wiring}
 use Rattle.stepping.proofs.Answers.{run-reply, run-unread}
 use Rattle.stepping.proofs.run.Statement.{statement}
 use Rattle.stepping.proofs.run.Tie as tie

@@ -6,7 +6,7 @@ use Prim.Native.Nat.{_+_, _<_, _≤_, suc, zero, ℕ}
 use lib.ListN.{length}
 use Rattle.marked.specs.Lists.{All}
 use Rattle.marked.specs.Net.{Net, Walk, lasts, tokens}
-use Rattle.sweep.specs.helpers.Raises.{Noted}
+use Rattle.tbo_sweep.specs.helpers.Raises.{Noted}
 
 -- The transition before v: the source of the place noted at v; v itself where none is.
 unfoldable pub behind : Net → ℕ → ℕ → ℕ

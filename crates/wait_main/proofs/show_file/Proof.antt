@@ -1,7 +1,7 @@
 -- Past the test look has accepted, so its rows are such as the calls ask.
 use denote.Ref.{now}
 use borrow.Author.Needs.{needs}
-use Rattle.reader.proofs.Accepting.{accepted, accepted-single, accepted-valid}
+use Rattle.reader.proofs.Accepting.{accepted-good}
 use Rattle.wait_main.proofs.show_file.Statement.{statement}
 use Rattle.wait_main.proofs.show_file.Tie as tie
 
@@ -33,8 +33,8 @@ show-requires : tie.Need-show-requires
 show-requires c κs =
     let k = c .before .before .before .before .before .before .before .before .before .before .before in
     let l = k .before .before in
-    let a = accepted (now (l .before .before .args .file)) (l .look .result) (k .enum-told .given .1) (l .look .ensures) in
-    (accepted-valid a, accepted-single a)
+    let a = accepted-good (now (l .before .before .args .file)) (l .look .result) (k .enum-told .given .1) (l .look .ensures) in
+    (a .wired, a .marked)
 
 returns : tie.Need-returns
 returns c = search needs

@@ -1,7 +1,7 @@
 -- Every entry is 0 from the start.
 use mathlib.Core.Path.{refl}
 use Rattle.net.specs.Limits.{mostEdges, mostOperations}
-use Rattle.tables.proofs.Filling.{filled-none}
+use Rattle.reader_tables.proofs.Filling.{filled-none}
 use Rattle.reader.proofs.read.blank.Statement.{statement}
 use Rattle.reader.proofs.read.blank.Tie as tie
 

@@ -1,16 +1,16 @@
 -- Past the test, the graph is within its limits.
-use denote.Ref.{now}
 use borrow.Author.Needs.{needs}
-use Rattle.reader.specs.Accepted.{Accepted}
-use Rattle.reader.proofs.Accepting.{accepted}
+use Rattle.net.specs.Good.{Good}
+use Rattle.reader.proofs.Accepting.{accepted-good}
 use Rattle.records.proofs.calls.look_line.Statement.{statement}
 use Rattle.records.proofs.calls.look_line.Tie as tie
 
 -- past the test, look has accepted
-passed : (c : tie.After-enum-told) → Accepted (c .before .before .look .result .graph)
+passed : (c : tie.After-enum-told) → let g = c .before .before .look .result .graph in
+    Good (g .operations) (g .edges) (g .times) (g .from) (g .to) (g .mark) (g .buffers)
 passed c =
     let l = c .before .before in
-    accepted (now (l .before .before .args .file)) (l .look .result) (c .enum-told .given .1) (l .look .ensures)
+    accepted-good _ (l .look .result) (c .enum-told .given .1) (l .look .ensures)
 
 look-requires : tie.Need-look-requires
 look-requires c κs = search needs
@@ -37,7 +37,7 @@ enum-told : tie.Need-enum-told
 enum-told c = search needs
 
 look-graph-requires : tie.Need-look-graph-requires
-look-graph-requires c κs = passed (c .before)
+look-graph-requires c κs = let w = passed (c .before) .wired in (w .operations, w .edges)
 
 returns-2 : tie.Need-returns-2
 returns-2 c = search needs

@@ -28,7 +28,7 @@ use denote.Memory.{mem}
 use denote.Laws.{Is, shows}
 use denote.Plain.{uint-tells, uint-vals}
 use denote.Array.{Array}
-use denote.Builtin.{u16, u8, usize}
+use denote.Builtin.{u16, u8}
 use denote.Ref.{MutRef, RefT, mut-tells, ptr-vals, shr-tells}
 use denote.Slice.{Room, finally, mut-slice-tells, shr-slice-tells, slice-vals}
 use denote.Steps.{closes, heard, nothing, only, opens, peeks}
@@ -46,12 +46,12 @@ use denote.Triple.Walked.{Stays, Walks, ends-at, gave-slice, goes-dropped, goes-
 use denote.Exit.{yes}
 use denote.Signature.{plain}
 use Rattle.running.specs.declared.entry.RunRecord.{RunRecord}
-use Rattle.running.specs.declared.entry.Taken.{Taken}
+use Rattle.running.specs.declared.entry.AfterEntry.{AfterEntry}
 use Rattle.firing.specs.declared.step.Answer.{Answer}
 use Rattle.running.proofs.entry.RunRecord as T
 use Rattle.running.proofs.entry.RunRecord.Laws as T′
-use Rattle.running.proofs.entry.Taken as N
-use Rattle.running.proofs.entry.Taken.Laws as N′
+use Rattle.running.proofs.entry.AfterEntry as N
+use Rattle.running.proofs.entry.AfterEntry.Laws as N′
 use Rattle.firing.proofs.step.Answer as S
 use Rattle.firing.proofs.step.Answer.Laws as S′
 use Rattle.running.proofs.Lends.{Asks, Last, ListAt, NumAt, Rest, RowAt, Took, kinds, mach, passed, tokens, vals}
@@ -65,13 +65,9 @@ use Rattle.running.proofs.entry.entry.Code as code
 use Rattle.running.proofs.entry.entry.Statement as stated
 
 abbrev stayed : Stays (entry.ended .signature .params) (entry.ended .kept)
-stayed = (
-  stay-ref (0 ∷ []) tt (plain (λ _. T.the-row)),
-  (
-    gave-slice (1 ∷ []) tt (plain (λ _. u8)),
-    (stay-dropped (NumAt 3) yes, (stay-dropped (RowAt 3 2 tt) yes, (stay-dropped (RowAt 3 2 tt) yes, (stay-dropped (ListAt 3 2 tt) yes, tt)))),
-  ),
-)
+stayed =
+    let row = stay-dropped (RowAt 3 2 tt) yes in
+    (stay-ref (0 ∷ []) tt (plain (λ _. T.the-row)), (gave-slice (1 ∷ []) tt (plain (λ _. u8)), (stay-dropped (NumAt 3) yes, (row, (row, (stay-dropped (ListAt 3 2 tt) yes, tt))))))
 
 -- the contract that the proof cites
 abbrev Core : {M : Type 1} (𝓤 : URA M) (H : Heap 𝓤) (A : Atoms 𝓤) (mem : Memory → SProp 𝓤) (run : Routine → Fun 𝓤) → Contract 𝓤
@@ -134,7 +130,7 @@ module _ {M : Type 1} (𝓤 : URA M) (H : Heap 𝓤) (A : Atoms 𝓤) (W : Given
         (and-then ! (load ! (from ! (stop !)) (look ! 5 refl))
         (and-then ! (load ! (from ! (stop !)) (look ! 19 refl))
         (and-then ! (load ! (from ! (stop !)) (look ! 17 refl)) (and-then ! (load ! (from ! (stop !)) (look ! 15 refl)) (and-then ! (load ! (from ! (stop !)) (look ! 13 refl)) (no-more !))))))) (λ w.
-        use1 W (later (some (λ (m : Taken). (toks ⊛ ‵ (N.the-row .own m (w ∷ []))) ⊛ raw (ensured 𝓤 H A core.ended (core.clauses 𝓤 H A at-mem run) (κ₁, (κ₂, tt)) (h, ps) tt m)))) (id⊢ 𝓤 _) $
+        use1 W (later (some (λ (m : AfterEntry). (toks ⊛ ‵ (N.the-row .own m (w ∷ []))) ⊛ raw (ensured 𝓤 H A core.ended (core.clauses 𝓤 H A at-mem run) (κ₁, (κ₂, tt)) (h, ps) tt m)))) (id⊢ 𝓤 _) $
         await ! tt $ pick ! (λ m.
         split ! $ move ! (1 ∷ []) $ use1 W (some (λ (zs : Unit {0} × Last). ‵ (lasts core.ended (κ₁, (κ₂, tt)) (h, ps) zs) ⊛ raw (fact 𝓤 (Took h ps (m .answer) (m .rec) (zs .1 .0))))) (id⊢ 𝓤 _) $
         pick ! (λ zs.
@@ -165,13 +161,8 @@ module _ {M : Type 1} (𝓤 : URA M) (H : Heap 𝓤) (A : Atoms 𝓤) (W : Given
       → Walks 𝓤 H A entry.ended stayed (WpFn 𝓤 H C Λ code.function) (entry.clauses 𝓤 H A mem run)
   entry-walks C Λ fm known = walked 𝓤 H A entry.ended stayed (entry.clauses 𝓤 H A mem run) (WpFn 𝓤 H C Λ code.function)
       (λ κs. (ptr-vals, (slice-vals, (uint-vals w64, (ptr-vals, (ptr-vals, (slice-vals, tt)))))))
-      (λ κs. (
-        mut-tells (named 0) (κs .0) T.the-row,
-        (
-          mut-slice-tells (named 1) (κs .1 .0) u8,
-          (uint-tells w64, (shr-tells (named 2) (κs .1 .1 .0) (Array u8 128), (shr-tells (named 2) (κs .1 .1 .0) (Array u8 128), (shr-slice-tells (named 2) (κs .1 .1 .0) u16, tt)))),
-        ),
-      ))
+      (λ κs. let row = shr-tells (named 2) (κs .1 .1 .0) (Array u8 128) in
+      (mut-tells (named 0) (κs .0) T.the-row, (mut-slice-tells (named 1) (κs .1 .0) u8, (uint-tells w64, (row, (row, (shr-slice-tells (named 2) (κs .1 .1 .0) u16, tt)))))))
       (λ κs qs bounds a g are. needs 𝓤 (Asks (a .0 .now) (a .1)) _
       (walk 𝓤 H A W mem run (κs .0) (κs .1 .0) (κs .1 .1 .0) (qs .0) (qs .1 .0) (qs .1 .1 .0) (a .0 .ptr .0) (a .0 .ptr .1) (a .0 .name) (a .0 .now) (a .1)
       C Λ fm known (are .1 .1 .0 .1) (are .1 .0 .0 .1) (are .1 .1 .1 .1 .1 .0 .0 .1)))
@@ -179,16 +170,11 @@ module _ {M : Type 1} (𝓤 : URA M) (H : Heap 𝓤) (A : Atoms 𝓤) (W : Given
 entry-meets : {M : Type 1} (𝓤 : URA M) (H : Heap 𝓤) (A : Atoms 𝓤) → Given 𝓤 H A → (mem : Memory → SProp 𝓤) (run : Routine → Fun 𝓤) (𝓣 : Tables 𝓤 H) → Triple 𝓤 (𝓣 .C #core) (Core 𝓤 H A mem run)
     → Meets 𝓤 H A entry.signature (WpFn 𝓤 H (𝓣 .C) (𝓣 .Λ) code.function) (entry.spec 𝓤 H A mem run)
 entry-meets 𝓤 H A W mem run 𝓣 known =
-    walk-meets 𝓤 H A entry.ended stayed W (
-      goes-ref 𝓤 H A W 3 0 tt (plain (λ _. T.the-row)),
-      (
-        goes-gave-slice 𝓤 H A W 3 1 tt (plain (λ _. u8)),
-        (
-          goes-dropped 𝓤 H A W 3 (NumAt 3) yes (λ κs x f. refl),
-          (goes-dropped 𝓤 H A W 3 (RowAt 3 2 tt) yes (λ κs x f. refl), (goes-dropped 𝓤 H A W 3 (RowAt 3 2 tt) yes (λ κs x f. refl), (goes-dropped 𝓤 H A W 3 (ListAt 3 2 tt) yes (λ κs x f. refl), tt))),
-        ),
-      ),
-    )
+    let rec = goes-ref 𝓤 H A W 3 0 tt (plain (λ _. T.the-row)) in
+    let num = goes-dropped 𝓤 H A W 3 (NumAt 3) yes (λ κs x f. refl) in
+    let row = goes-dropped 𝓤 H A W 3 (RowAt 3 2 tt) yes (λ κs x f. refl) in
+    let list = goes-dropped 𝓤 H A W 3 (ListAt 3 2 tt) yes (λ κs x f. refl) in
+    walk-meets 𝓤 H A entry.ended stayed W (rec, (goes-gave-slice 𝓤 H A W 3 1 tt (plain (λ _. u8)), (num, (row, (row, (list, tt))))))
     (entry.clauses 𝓤 H A mem run) (WpFn 𝓤 H (𝓣 .C) (𝓣 .Λ) code.function) (WpFn-mono 𝓤 H (W .laws) 𝓣 code.function) (entry-walks 𝓤 H A W mem run (𝓣 .C) (𝓣 .Λ) (fmOf 𝓤 H (W .laws) 𝓣) known)
 
 pub entry-spec : {M : Type 1} → stated.statement M

@@ -29,7 +29,7 @@ use denote.Laws.{Is, shows}
 use denote.Lend.{lends-ref, ref-back}
 use denote.Plain.{uint-tells, uint-vals}
 use denote.Array.{Array}
-use denote.Builtin.{u16, u8, usize}
+use denote.Builtin.{u16, u8}
 use denote.Ref.{MutRef, RefT, ptr-vals, shr-tells}
 use denote.Slice.{Room, finally, mut-slice-tells, shr-slice-tells, slice-vals}
 use denote.Steps.{heard, nothing, only, owned, peeks}
@@ -45,12 +45,12 @@ use denote.Triple.Walked.{Stays, Walks, ends-at, gave-slice, goes-dropped, goes-
 use denote.Exit.{yes}
 use denote.Signature.{plain}
 use Rattle.running.specs.declared.entry.RunRecord.{RunRecord}
-use Rattle.running.specs.declared.entry.Taken.{Taken}
+use Rattle.running.specs.declared.entry.AfterEntry.{AfterEntry}
 use Rattle.firing.specs.declared.step.Answer.{Answer}
 use Rattle.running.proofs.entry.RunRecord as T
 use Rattle.running.proofs.entry.RunRecord.Laws as T′
-use Rattle.running.proofs.entry.Taken as N
-use Rattle.running.proofs.entry.Taken.Laws as N′
+use Rattle.running.proofs.entry.AfterEntry as N
+use Rattle.running.proofs.entry.AfterEntry.Laws as N′
 use Rattle.firing.proofs.step.Answer as S
 use Rattle.firing.proofs.step.Answer.Laws as S′
 use Rattle.running.proofs.Lends.{Asks, Last, ListAt, NumAt, RecAt, Rest, RowAt, Took, kinds, mach, passed, rec-in, rec-out, tokens, vals}
@@ -64,13 +64,9 @@ use Rattle.running.proofs.entry.take.Code as code
 use Rattle.running.proofs.entry.take.Statement as stated
 
 abbrev stayed : Stays (take.ended .signature .params) (take.ended .kept)
-stayed = (
-  stay-dropped (RecAt 2) yes,
-  (
-    gave-slice (0 ∷ []) tt (plain (λ _. u8)),
-    (stay-dropped (NumAt 2) yes, (stay-dropped (RowAt 2 1 tt) yes, (stay-dropped (RowAt 2 1 tt) yes, (stay-dropped (ListAt 2 1 tt) yes, tt)))),
-  ),
-)
+stayed =
+    let row = stay-dropped (RowAt 2 1 tt) yes in
+    (stay-dropped (RecAt 2) yes, (gave-slice (0 ∷ []) tt (plain (λ _. u8)), (stay-dropped (NumAt 2) yes, (row, (row, (stay-dropped (ListAt 2 1 tt) yes, tt))))))
 
 -- the contract that the proof cites
 abbrev Entry : {M : Type 1} (𝓤 : URA M) (H : Heap 𝓤) (A : Atoms 𝓤) (mem : Memory → SProp 𝓤) (run : Routine → Fun 𝓤) → Contract 𝓤
@@ -81,7 +77,7 @@ module _ {M : Type 1} (𝓤 : URA M) (H : Heap 𝓤) (A : Atoms 𝓤) (W : Given
   a = (h, ps)
 
   -- what is returned, and its machine value
-  abbrev made : RunRecord → Answer → Taken
+  abbrev made : RunRecord → Answer → AfterEntry
   made h′ r = record { rec = h′; answer = r }
 
   abbrev whole-val : RunRecord → Answer → Val
@@ -179,32 +175,19 @@ module _ {M : Type 1} (𝓤 : URA M) (H : Heap 𝓤) (A : Atoms 𝓤) (W : Given
       → Walks 𝓤 H A take.ended stayed (WpFn 𝓤 H C Λ code.function) (take.clauses 𝓤 H A mem run)
   take-walks C Λ fm known = walked 𝓤 H A take.ended stayed (take.clauses 𝓤 H A mem run) (WpFn 𝓤 H C Λ code.function)
       (λ κs. (LL.vals T.the-type T′.the-laws, (slice-vals, (uint-vals w64, (ptr-vals, (ptr-vals, (slice-vals, tt)))))))
-      (λ κs. (
-        LL.tells T.the-type T′.the-laws,
-        (
-          mut-slice-tells (named 0) (κs .0) u8,
-          (
-            uint-tells w64,
-            (shr-tells (named 1) (κs .1 .0) (Array u8 128), (shr-tells (named 1) (κs .1 .0) (Array u8 128), (shr-slice-tells (named 1) (κs .1 .0) u16, tt))),
-          ),
-        ),
-      ))
+      (λ κs. let row = shr-tells (named 1) (κs .1 .0) (Array u8 128) in
+      (LL.tells T.the-type T′.the-laws, (mut-slice-tells (named 0) (κs .0) u8, (uint-tells w64, (row, (row, (shr-slice-tells (named 1) (κs .1 .0) u16, tt)))))))
       (λ κs qs bounds a g are. needs 𝓤 (Asks (a .0) (a .1)) _
       (walk 𝓤 H A W mem run (κs .0) (κs .1 .0) (qs .0) (qs .1 .0) (a .0) (a .1) C Λ fm known (are .0) (are .1 .1 .0 .1) (are .1 .0 .0 .1) (are .1 .1 .1 .1 .1 .0 .0 .1)))
 
 take-meets : {M : Type 1} (𝓤 : URA M) (H : Heap 𝓤) (A : Atoms 𝓤) → Given 𝓤 H A → (mem : Memory → SProp 𝓤) (run : Routine → Fun 𝓤) (𝓣 : Tables 𝓤 H) → Triple 𝓤 (𝓣 .C #entry) (Entry 𝓤 H A mem run)
     → Meets 𝓤 H A take.signature (WpFn 𝓤 H (𝓣 .C) (𝓣 .Λ) code.function) (take.spec 𝓤 H A mem run)
 take-meets 𝓤 H A W mem run 𝓣 known =
-    walk-meets 𝓤 H A take.ended stayed W (
-      goes-dropped 𝓤 H A W 2 (RecAt 2) yes (λ κs x f. refl),
-      (
-        goes-gave-slice 𝓤 H A W 2 0 tt (plain (λ _. u8)),
-        (
-          goes-dropped 𝓤 H A W 2 (NumAt 2) yes (λ κs x f. refl),
-          (goes-dropped 𝓤 H A W 2 (RowAt 2 1 tt) yes (λ κs x f. refl), (goes-dropped 𝓤 H A W 2 (RowAt 2 1 tt) yes (λ κs x f. refl), (goes-dropped 𝓤 H A W 2 (ListAt 2 1 tt) yes (λ κs x f. refl), tt))),
-        ),
-      ),
-    )
+    let rec = goes-dropped 𝓤 H A W 2 (RecAt 2) yes (λ κs x f. refl) in
+    let num = goes-dropped 𝓤 H A W 2 (NumAt 2) yes (λ κs x f. refl) in
+    let row = goes-dropped 𝓤 H A W 2 (RowAt 2 1 tt) yes (λ κs x f. refl) in
+    let list = goes-dropped 𝓤 H A W 2 (ListAt 2 1 tt) yes (λ κs x f. refl) in
+    walk-meets 𝓤 H A take.ended stayed W (rec, (goes-gave-slice 𝓤 H A W 2 0 tt (plain (λ _. u8)), (num, (row, (row, (list, tt))))))
     (take.clauses 𝓤 H A mem run) (WpFn 𝓤 H (𝓣 .C) (𝓣 .Λ) code.function) (WpFn-mono 𝓤 H (W .laws) 𝓣 code.function) (take-walks 𝓤 H A W mem run (𝓣 .C) (𝓣 .Λ) (fmOf 𝓤 H (W .laws) 𝓣) known)
 
 pub take-spec : {M : Type 1} → stated.statement M

@@ -6,9 +6,9 @@ use denote.Ref.{now}
 use borrow.Author.Needs.{needs}
 use Rattle.refusal.specs.Asking.{Sound}
 use Rattle.net.specs.Plan.{Plan}
-use Rattle.marking.specs.Rows.{runRows}
-use Rattle.marking.specs.helpers.Wiring.{plotted}
-use Rattle.marking.proofs.Judging.{marking-given, marking-sound}
+use Rattle.accepting.specs.Rows.{runRows}
+use Rattle.accepting.specs.helpers.Wiring.{plotted}
+use Rattle.accepting.proofs.Judging.{marking-given, marking-sound}
 use Rattle.stepping.specs.helpers.Work.GraphRun.{kept, taken}
 use Rattle.stepping.proofs.Answers.{accepted-few}
 use Rattle.stepping.proofs.graph.run_graph.Statement.{statement}

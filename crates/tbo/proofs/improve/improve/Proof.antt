@@ -10,9 +10,9 @@ use Rattle.net.specs.Plan.{wires}
 use Rattle.marked.proofs.Fresh.{zeros}
 use Rattle.fraction.specs.helpers.Loaded.{mostTime}
 use Rattle.fraction.proofs.Loads.{weighted-proper, weighted-short}
-use Rattle.sweep.specs.helpers.Raises.{Room}
-use Rattle.sweep.proofs.Sweeping.{room-more}
-use Rattle.sweep.proofs.Tries.{room-swept}
+use Rattle.tbo_sweep.specs.helpers.Raises.{Room}
+use Rattle.tbo_sweep.proofs.Sweeping.{room-more}
+use Rattle.tbo_sweep.proofs.Tries.{room-swept}
 use Rattle.tbo.specs.helpers.Improved.{lowly}
 use Rattle.tbo.specs.helpers.Improved.Improves.{beaten, certified}
 use Rattle.tbo.proofs.Running.{Running, better, certify, lands, rose, running-on, running-start, steady-next, turns}

@@ -7,9 +7,9 @@ use native.Mathlib.Omega.{arith}
 use mathlib.Core.Path.{refl}
 use Rattle.refusal.specs.Asking.{Sound}
 use Rattle.net.specs.Plan.{Plan}
-use Rattle.marking.specs.Rows.{runRows}
-use Rattle.marking.specs.helpers.Wiring.{plotted}
-use Rattle.marking.proofs.Judging.{marking-given, marking-sound}
+use Rattle.accepting.specs.Rows.{runRows}
+use Rattle.accepting.specs.helpers.Wiring.{plotted}
+use Rattle.accepting.proofs.Judging.{marking-given, marking-sound}
 use Rattle.waiting.proofs.Answers.{answers-12, answers-row, answers-wait}
 use Rattle.waiting.proofs.answer.answer.Statement.{statement}
 use Rattle.waiting.proofs.answer.answer.Tie as tie

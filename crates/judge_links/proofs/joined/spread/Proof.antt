@@ -1,0 +1,69 @@
+-- An even edge leaves the marks as they are; one that is not has one end marked, so both ends are joined and one mark is new.
+use Prim.Native.Nat.{_<_}
+use native.Mathlib.Omega.{arith}
+use Rattle.judge_links.proofs.Reach.{spread-more, spread-still}
+use borrow.Author.Needs.{needs}
+use Rattle.judge_links.proofs.joined.spread.Statement.{statement}
+use Rattle.judge_links.proofs.joined.spread.Tie as tie
+
+-- The two ends, as they are read, are nodes.
+abbrev start : tie.After-wide2 → tie.Start
+start c = c .before .before .before .before
+
+node : (c : tie.After-wide2) → (c .before .before .wide .result < 42) × (c .wide2 .result < 42)
+node c =
+    let s = start c in
+    (omega (arith, c .before .before .wide .ensures, s .pre .0 .leaves (s .args .k) (s .pre .1 .1)), omega (arith, c .wide2 .ensures, s .pre .0 .enters (s .args .k) (s .pre .1 .1)))
+
+element-copy-out-wide : tie.Need-element-copy-out-wide
+element-copy-out-wide c = search needs
+
+wide-requires : tie.Need-wide-requires
+wide-requires c κs = search needs
+
+element-copy-out-wide-2 : tie.Need-element-copy-out-wide-2
+element-copy-out-wide-2 c = search needs
+
+wide-requires-2 : tie.Need-wide-requires-2
+wide-requires-2 c κs = search needs
+
+element-copy-out-if1 : tie.Need-element-copy-out-if1
+element-copy-out-if1 c = node c .0
+
+element-copy-out-if1-2 : tie.Need-element-copy-out-if1-2
+element-copy-out-if1-2 c = node (c .before) .1
+
+returns : tie.Need-returns
+returns c =
+    let d = c .before .before .before in
+    let s = start d in
+    spread-still {a = d .before .before .wide .result} {b = d .wide2 .result} (s .args .changed) (s .pre .1 .0) (omega (arith, c .if1 .taken)) (d .before .before .wide .ensures) (d .wide2 .ensures)
+
+element-write-seen : tie.Need-element-write-seen
+element-write-seen c = node (c .before .before .before) .0
+
+element-write-seen-2 : tie.Need-element-write-seen-2
+element-write-seen-2 c = node (c .before .before .before) .1
+
+returns-2 : tie.Need-returns-2
+returns-2 c =
+    let d = c .before .before .before in
+    let s = start d in
+    let inside = s .pre .1 .1 in
+    spread-more (s .args .changed) (s .pre .1 .0) inside (c .if1 .left)
+    (d .before .before .wide .ensures) (d .wide2 .ensures) (s .pre .0 .leaves _ inside) (s .pre .0 .enters _ inside)
+
+pub spread-spec : {M : Type 1} → statement M
+spread-spec =
+    tie.close
+    (tie.spec
+    element-copy-out-wide
+    wide-requires
+    element-copy-out-wide-2
+    wide-requires-2
+    element-copy-out-if1
+    element-copy-out-if1-2
+    returns
+    element-write-seen
+    element-write-seen-2
+    returns-2)

@@ -1,0 +1,64 @@
+-- The ends of the edges so far are marked, one edge more a turn.
+use Prim.Native.Nat.{_≤_, _<_, _-_}
+use mathlib.Core.Path.{_≡_, refl}
+use native.Mathlib.Omega.{arith}
+use lib.ListN.{length, length-set}
+use Rattle.judge_links.specs.helpers.Ticks.{Ticks}
+use Rattle.judge_links.proofs.Ticking.{ticks-more, ticks-none, ticks-to}
+use Rattle.judge_links.proofs.linked.tick.Statement.{statement}
+use Rattle.judge_links.proofs.linked.tick.Tie as tie
+
+abbrev Inv-loop : tie.InvT-loop
+Inv-loop e ends seen₀ k₀ seen k = (k ≤ e) × (length seen ≡ 42) × Ticks k ends seen
+
+abbrev μ-loop : tie.MeasureT-loop
+μ-loop e ends seen₀ k₀ seen k = e - k
+
+-- The turn of the loop that reads an end.
+abbrev at-loop : tie.After-wide Inv-loop μ-loop → tie.At-loop Inv-loop μ-loop
+at-loop c = c .before .before .before
+
+-- The end of the edge at hand is a node.
+node : (c : tie.After-wide Inv-loop μ-loop) → c .wide .result < 42
+node c = let d = at-loop c in omega (arith, c .wide .ensures, d .before .pre .1 (d .loop .k) (omega arith))
+
+loop-holds : tie.Need-loop-holds Inv-loop μ-loop
+loop-holds c = (omega arith, refl, ticks-none _)
+
+element-copy-out-wide : tie.Need-element-copy-out-wide Inv-loop μ-loop
+element-copy-out-wide c = omega arith
+
+wide-requires : tie.Need-wide-requires Inv-loop μ-loop
+wide-requires c κs = tt
+
+array-write-seen : tie.Need-array-write-seen Inv-loop μ-loop
+array-write-seen c = node c
+
+add-k : tie.Need-add-k Inv-loop μ-loop
+add-k c = omega arith
+
+loop-less : tie.Need-loop-less Inv-loop μ-loop
+loop-less c = omega arith
+
+loop-again : tie.Need-loop-again Inv-loop μ-loop
+loop-again c =
+    let inv = at-loop c .loop .inv in
+    (omega arith, rw length-set (inv .1), ticks-more _ (c .wide .ensures) (rw (inv .1) (node c)) (inv .2))
+
+returns : tie.Need-returns Inv-loop μ-loop
+returns c = ticks-to (omega arith) (c .before .loop .inv .2)
+
+pub tick-spec : {M : Type 1} → statement M
+tick-spec =
+    tie.close
+    (tie.spec
+    Inv-loop
+    μ-loop
+    loop-holds
+    element-copy-out-wide
+    wide-requires
+    array-write-seen
+    add-k
+    loop-less
+    loop-again
+    returns)
