@@ -1,10 +1,10 @@
 // The circuit that attains TBO: of those that do, written lowest place first, the first in dictionary order.
 mod write;
 
+use circuit_tight::LOOSE;
 use net::EDGES;
 use net::PLACES;
 use net::TRANSITIONS;
-use circuit_tight::LOOSE;
 ghost use Prim.Native.Nat.{_+_, _*_, _≤_};
 ghost use lib.ListN.{length};
 ghost use Rattle.marked.specs.Net.{at};

@@ -1,9 +1,9 @@
 // The lowest place on a circuit of tight places, and the first such circuit: an ordered depth-first search that never takes a mark back.
+use circuit_tight::LOOSE;
 use fraction::widen::index;
 use fraction::widen::number;
 use net::PLACES;
 use net::TRANSITIONS;
-use circuit_tight::LOOSE;
 ghost use mathlib.Core.Path.{_≡_};
 ghost use Prim.Native.Nat.{_+_, _<_};
 ghost use lib.ListN.{length};

@@ -1,10 +1,10 @@
 // The report of a graph that look has accepted, where it has room: its waits, its bounds and the text.
 use crate::waits::start_waits;
 use bounds::measure::measure;
-use report_lines::write_report;
 use net::EDGES;
 use net::OPERATIONS;
 use net::TRANSITIONS;
+use report_lines::write_report;
 ghost use Prim.Native.Nat.{_≤_};
 ghost use lib.ListN.{length};
 ghost use Rattle.net.specs.Plan.{rows};

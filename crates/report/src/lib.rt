@@ -4,11 +4,11 @@ pub mod reply;
 mod waits;
 
 use answer::answer;
-use report_lines::write_refused;
 use reader::look;
 use refusal::Refusal;
 use refusal::Verdict;
 use reply::Report;
+use report_lines::write_refused;
 ghost use Rattle.report.specs.Reply.{ReportReply};
 
 // No report is longer than this.

@@ -1,8 +1,8 @@
 // The three calls for a graph that look has accepted, over its rows: 10 and 11 first, then the work.
 use crate::reply::Start;
+use accepting::accepts::accepts;
 use firing::step::Answer;
 use firing::step::step_rows;
-use accepting::accepts::accepts;
 use net::EDGES;
 use net::start::start_marking;
 use refusal::Refusal;

@@ -7,7 +7,6 @@ use Rattle.report.proofs.Theorems.{report-within}
 use Rattle.report_main.proofs.print.Statement.{statement}
 use Rattle.report_main.proofs.print.Tie as tie
 
-
 slice-aggregate-report : tie.Need-slice-aggregate-report
 slice-aggregate-report c = search needs
 
