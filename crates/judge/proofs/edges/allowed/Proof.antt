@@ -1,10 +1,9 @@
+-- The limits of the four bytes, one after the other.
 use native.Mathlib.Omega.{arith}
 use Rattle.refusal.specs.helpers.Answers.{fails, holds}
 use borrow.Author.Needs.{needs}
 use Rattle.judge.proofs.edges.allowed.Statement.{statement}
 use Rattle.judge.proofs.edges.allowed.Tie as tie
-use Rattle.judge.proofs.edges.allowed.Reads as reads
-use Rattle.judge.proofs.edges.allowed.Lts as lts
 
 -- src/edges.rt:17:9
 returns : tie.Need-returns

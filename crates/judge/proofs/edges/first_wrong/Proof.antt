@@ -1,3 +1,4 @@
+-- The edges before the one at hand are allowed.
 use borrow.Author.Needs.{needs}
 use Rattle.net.specs.Rules.{Allowed, Edge}
 use Rattle.net.specs.Plan.{rows}
@@ -9,9 +10,6 @@ use mathlib.Core.List.{[]}
 use Prim.Native.Nat.{ℕ, _≤_, _<_, _-_}
 use Rattle.judge.proofs.edges.first_wrong.Statement.{statement}
 use Rattle.judge.proofs.edges.first_wrong.Tie as tie
-use Rattle.judge.proofs.edges.first_wrong.Reads as reads
-use Rattle.judge.proofs.edges.first_wrong.Lts as lts
-use Rattle.judge.proofs.edges.allowed.Reads as allowed-reads
 
 abbrev Inv-loop : tie.InvT-loop
 Inv-loop n e from to mark buffers k₀ k =

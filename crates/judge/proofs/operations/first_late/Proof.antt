@@ -1,3 +1,4 @@
+-- The operations before the one at hand have their times within the limits.
 use Rattle.net.specs.Rules.{Operation, Timely}
 use Rattle.net.specs.Plan.{rows}
 use Rattle.refusal.proofs.Answers.{said, denied}
@@ -8,9 +9,6 @@ use mathlib.Core.List.{[]}
 use Prim.Native.Nat.{ℕ, _≤_, _<_, _-_, _+_}
 use Rattle.judge.proofs.operations.first_late.Statement.{statement}
 use Rattle.judge.proofs.operations.first_late.Tie as tie
-use Rattle.judge.proofs.operations.first_late.Reads as reads
-use Rattle.judge.proofs.operations.first_late.Lts as lts
-use Rattle.judge.proofs.operations.timely.Reads as timely-reads
 
 abbrev Inv-loop : tie.InvT-loop
 Inv-loop n times i₀ i = (1 ≤ i) × (i ≤ n + 1) × ((y : ℕ) → y < i → Operation (rows n 0 times [] [] [] []) y → Timely (rows n 0 times [] [] [] []) y)

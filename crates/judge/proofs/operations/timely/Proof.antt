@@ -1,10 +1,9 @@
+-- The two limits of a time, one after the other.
 use borrow.Author.Needs.{needs}
 use native.Mathlib.Omega.{arith}
 use Rattle.refusal.specs.helpers.Answers.{fails, holds}
 use Rattle.judge.proofs.operations.timely.Statement.{statement}
 use Rattle.judge.proofs.operations.timely.Tie as tie
-use Rattle.judge.proofs.operations.timely.Reads as reads
-use Rattle.judge.proofs.operations.timely.Lts as lts
 
 -- src/operations.rt:18:9
 returns : tie.Need-returns

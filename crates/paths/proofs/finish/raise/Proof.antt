@@ -1,3 +1,4 @@
+-- An edge offers its target a later finish, or none.
 use Rattle.paths.proofs.Passing.{good-passing}
 -- `raise` lifts the target to the edge's doneBy, which a path takes and is no more than all operations take.
 use Rattle.paths.proofs.Offers.{offered, origin-in, read-marked, read-unmarked, target-in}

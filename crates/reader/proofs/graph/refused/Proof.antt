@@ -1,10 +1,8 @@
+-- The graph beside a refusal is all 0.
 use Rattle.refusal.specs.Asking.{given}
 use borrow.Author.Needs.{needs}
 use Rattle.reader.proofs.graph.refused.Statement.{statement}
 use Rattle.reader.proofs.graph.refused.Tie as tie
-use Rattle.reader.proofs.graph.refused.Reads as reads
-use Rattle.reader.proofs.graph.refused.Lts as lts
-use Rattle.reader.proofs.read.blank.Reads as blank-reads
 
 -- src/graph.rt:37:9
 blank-requires : tie.Need-blank-requires
