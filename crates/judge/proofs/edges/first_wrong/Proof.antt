@@ -24,51 +24,40 @@ at-loop c =
     let read = c .before .before .before in
     read .before .before .before
 
--- src/edges.rt:46:5
 loop-holds : tie.Need-loop-holds Inv-loop μ-loop
 loop-holds c = (omega arith, λ y l d. absurd (let z : ⊥ = omega arith in z))
 
--- src/edges.rt:47:24
 element-copy-out-allowed : tie.Need-element-copy-out-allowed Inv-loop μ-loop
 element-copy-out-allowed c = search needs
 
--- src/edges.rt:47:33
 element-copy-out-allowed-2 : tie.Need-element-copy-out-allowed-2 Inv-loop μ-loop
 element-copy-out-allowed-2 c = search needs
 
--- src/edges.rt:47:40
 element-copy-out-allowed-3 : tie.Need-element-copy-out-allowed-3 Inv-loop μ-loop
 element-copy-out-allowed-3 c = search needs
 
--- src/edges.rt:47:49
 element-copy-out-allowed-4 : tie.Need-element-copy-out-allowed-4 Inv-loop μ-loop
 element-copy-out-allowed-4 c = search needs
 
--- src/edges.rt:47:13
 allowed-requires : tie.Need-allowed-requires Inv-loop μ-loop
 allowed-requires c κs = search needs
 
--- src/edges.rt:48:13
 returns : tie.Need-returns Inv-loop μ-loop
 returns c =
     let l = at-loop (c .before) in
     record { place = omega arith; broken = denied (c .before .allowed .ensures) (not-true _ (c .if1 .taken)); lower = l .loop .inv .1 }
 
--- src/edges.rt:50:9
 add-k : tie.Need-add-k Inv-loop μ-loop
 add-k c = omega arith
 
--- src/edges.rt:46:5
 loop-less : tie.Need-loop-less Inv-loop μ-loop
 loop-less c = omega arith
 
--- src/edges.rt:46:5
 loop-again : tie.Need-loop-again Inv-loop μ-loop
 loop-again c =
     let l = at-loop (c .before) in
     (omega arith, below-more _ _ (l .loop .inv .1) (λ d. said (c .before .allowed .ensures) (not-false _ (c .if1 .left))))
 
--- src/edges.rt:34:1
 returns-2 : tie.Need-returns-2 Inv-loop μ-loop
 returns-2 c = λ y d. c .before .loop .inv .1 y (omega arith) d
 

@@ -16,27 +16,21 @@ Inv-loop n times i₀ i = (1 ≤ i) × (i ≤ n + 1) × ((y : ℕ) → y < i →
 abbrev μ-loop : tie.MeasureT-loop
 μ-loop n times i₀ i = n + 1 - i
 
--- src/operations.rt:31:5
 loop-holds : tie.Need-loop-holds Inv-loop μ-loop
 loop-holds c = (omega arith, omega arith, λ y l d. absurd (let z : ⊥ = omega arith in z))
 
--- src/operations.rt:32:26
 sub-timely : tie.Need-sub-timely Inv-loop μ-loop
 sub-timely c = omega arith
 
--- src/operations.rt:32:20
 mul-timely : tie.Need-mul-timely Inv-loop μ-loop
 mul-timely c = omega arith
 
--- src/operations.rt:32:20
 element-copy-out-timely : tie.Need-element-copy-out-timely Inv-loop μ-loop
 element-copy-out-timely c = omega (arith, c .before .before .pre)
 
--- src/operations.rt:32:13
 timely-requires : tie.Need-timely-requires Inv-loop μ-loop
 timely-requires c κs = tt
 
--- src/operations.rt:33:13
 returns : tie.Need-returns Inv-loop μ-loop
 returns c = record {
   place = record { low-met = omega arith; high-met = omega arith };
@@ -44,19 +38,15 @@ returns c = record {
   lower = c .before .before .before .before .loop .inv .2;
 }
 
--- src/operations.rt:35:9
 add-i : tie.Need-add-i Inv-loop μ-loop
 add-i c = omega arith
 
--- src/operations.rt:31:5
 loop-less : tie.Need-loop-less Inv-loop μ-loop
 loop-less c = omega arith
 
--- src/operations.rt:31:5
 loop-again : tie.Need-loop-again Inv-loop μ-loop
 loop-again c = (omega arith, omega arith, below-more _ _ (c .before .before .before .before .loop .inv .2) (λ d. said (c .before .timely .ensures) (not-false _ (c .if1 .left))))
 
--- src/operations.rt:26:1
 returns-2 : tie.Need-returns-2 Inv-loop μ-loop
 returns-2 c = λ y d. c .before .loop .inv .2 y (omega arith) d
 

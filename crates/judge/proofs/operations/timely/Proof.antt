@@ -5,15 +5,12 @@ use Rattle.refusal.specs.helpers.Answers.{fails, holds}
 use Rattle.judge.proofs.operations.timely.Statement.{statement}
 use Rattle.judge.proofs.operations.timely.Tie as tie
 
--- src/operations.rt:18:9
 returns : tie.Need-returns
 returns c = fails (λ h. omega arith)
 
--- src/operations.rt:21:9
 returns-2 : tie.Need-returns-2
 returns-2 c = fails (λ h. omega arith)
 
--- src/operations.rt:14:1
 returns-3 : tie.Need-returns-3
 returns-3 c = holds (search needs)
 

@@ -4,11 +4,9 @@ use borrow.Author.Needs.{needs}
 use Rattle.reader.proofs.graph.refused.Statement.{statement}
 use Rattle.reader.proofs.graph.refused.Tie as tie
 
--- src/graph.rt:37:9
 blank-requires : tie.Need-blank-requires
 blank-requires c κs = search needs
 
--- src/graph.rt:33:1
 returns : tie.Need-returns
 returns c = λ f g. record { judged = given g; beside = c .blank .ensures _ }
 
