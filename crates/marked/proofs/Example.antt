@@ -37,7 +37,13 @@ pub p1-largest : Largest p1 start takes 5 1
 unfolding sum
 p1-largest =
     let D : ℕ → ℕ = at (0 ∷ 0 ∷ 0 ∷ 5 ∷ 5 ∷ []) in
-    record { bound = λ c ps y. certified p1 start takes 5 1 D (passed (certifies? p1 start takes 5 1 D) tt) (y .walk); turn = 1; ring = 0 ∷ 1 ∷ 2 ∷ []; circuit = passed (circuit? p1 1 (0 ∷ 1 ∷ 2 ∷ [])) tt; attains = refl }
+    record {
+      bound = λ c ps y. certified p1 start takes 5 1 D (passed (certifies? p1 start takes 5 1 D) tt) (y .walk);
+      turn = 1;
+      ring = 0 ∷ 1 ∷ 2 ∷ [];
+      circuit = passed (circuit? p1 1 (0 ∷ 1 ∷ 2 ∷ [])) tt;
+      attains = refl;
+    }
 
 -- The fewest tokens from the sink, and walks that have them.
 abbrev few : ℕ → ℕ

@@ -34,7 +34,10 @@ module _ (g : Net) (m time : ℕ → ℕ) (a b : ℕ) where
   test [] = inr (λ c y. absurd (omega (arith, y .some)))
   test (p ∷ ps) = at (circuit? g (g .src p) (p ∷ ps)) (above (a * tokens m (p ∷ ps)) (b * lasts g time (p ∷ ps)))
     where
-      at : Dec (Circuit g (g .src p) (p ∷ ps)) → (a * tokens m (p ∷ ps) < b * lasts g time (p ∷ ps)) ⊎ (b * lasts g time (p ∷ ps) ≤ a * tokens m (p ∷ ps)) → Exceeds g m time a b ⊎ Keeps g m time a b (p ∷ ps)
+      at :
+          Dec (Circuit g (g .src p) (p ∷ ps)) →
+          (a * tokens m (p ∷ ps) < b * lasts g time (p ∷ ps)) ⊎ (b * lasts g time (p ∷ ps) ≤ a * tokens m (p ∷ ps)) →
+          Exceeds g m time a b ⊎ Keeps g m time a b (p ∷ ps)
       at (yes y) (inl o) = inl (record { turn = g .src p; ring = p ∷ ps; circuit = y; over = o })
       at (no f) (inl o) = inr (λ c y. absurd (f (rw (starts (y .walk)) y)))
       at d (inr h) = inr (λ c y. h)

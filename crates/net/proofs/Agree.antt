@@ -37,7 +37,12 @@ module _ {p q : Plan} (a : Agree p q) where
       let y = a .to e l in
       let m = a .mark e l in
       let z = a .buffers e l in
-      record { leaves = omega (arith, h .leaves); enters = record { low-met = omega (arith, h .enters); high-met = omega (arith, h .enters) }; marked = omega (arith, h .marked); zero-byte = omega (arith, h .zero-byte) }
+      record {
+        leaves = omega (arith, h .leaves);
+        enters = record { low-met = omega (arith, h .enters); high-met = omega (arith, h .enters) };
+        marked = omega (arith, h .marked);
+        zero-byte = omega (arith, h .zero-byte);
+      }
 
 -- Row by row.
 pub agree-rows : (p q : Plan) → Agree p q → SameRows (graphRows p) (graphRows q)

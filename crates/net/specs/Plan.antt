@@ -21,7 +21,8 @@ timeAt times i = at times (i - 1)
 
 -- The plan of rows: times holds the times of operations 1, 2, ..; from, to, mark and buffers hold those of edges 0, 1, ..
 abbrev pub rows : ℕ → ℕ → List ℕ → List ℕ → List ℕ → List ℕ → List ℕ → Plan
-rows n e times from to mark buffers = record { operations = n; edges = e; time = timeAt times; from = at from; to = at to; mark = at mark; buffers = at buffers }
+rows n e times from to mark buffers =
+    record { operations = n; edges = e; time = timeAt times; from = at from; to = at to; mark = at mark; buffers = at buffers }
 
 -- The plan of rows that tell only where edges run.
 abbrev pub wires : ℕ → ℕ → List ℕ → List ℕ → Plan

@@ -1,4 +1,5 @@
--- Rows 5 to 9 of the refusal table (document 01, "Calls and refusals"), each with one definition: what must hold of each operation, edge, node or transition of a plan.
+-- Rows 5 to 9 of the refusal table (document 01, "Calls and refusals"), each with one definition:
+-- what must hold of each operation, edge, node or transition of a plan.
 use Prim.Native.Nat.{ℕ, _+_, _≤_, _<_}
 use mathlib.Core.Path.{_≡_}
 use mathlib.Core.List.{List, [], _∷_}

@@ -1,4 +1,5 @@
--- What a list of refusals means. Rows are asked in order; each has its number, and asks a rule of each of its places. The first row that is broken is given, at its lowest place.
+-- What a list of refusals means. Rows are asked in order; each has its number, and asks a rule of each of its places.
+-- The first row that is broken is given, at its lowest place.
 use Prim.Native.Nat.{ℕ, _<_}
 use mathlib.Core.Path.{_≡_}
 use mathlib.Core.Logic.{_⊎_}

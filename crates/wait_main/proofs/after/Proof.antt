@@ -9,6 +9,10 @@ use native.Mathlib.Omega.{arith}
 use Rattle.wait_main.proofs.after.Statement.{statement}
 use Rattle.wait_main.proofs.after.Tie as tie
 
+-- Where the firings are done, from where their number is printed.
+abbrev advanced : tie.After-number → tie.After-advance
+advanced c = c .before .before .before
+
 mul-places : tie.Need-mul-places
 mul-places c = search needs
 
@@ -44,7 +48,7 @@ write-all-requires c κs = search needs
 
 lines-requires : tie.Need-lines-requires
 lines-requires c κs =
-    let a = c .before .before .before .before .before .before in
+    let a = advanced (c .before .before .before) in
     let s = a .before .before .before .before in
     (s .pre .0, length-front (now (s .args .m)) (a .advance .last .1 .1 .1 .1 .0) (3 * s .args .n + 2 * s .args .e) (a .advance .kept .1 .1 .1 .1 .0) ∙ s .pre .1)
 

@@ -9,6 +9,15 @@ use native.Mathlib.Omega.{arith}
 use Rattle.wait_main.proofs.line.Statement.{statement}
 use Rattle.wait_main.proofs.line.Tie as tie
 
+-- Back from where the wait is printed: to where it is known, and to the start.
+abbrev told : tie.After-c3 → tie.After-known-told
+told c = c .before .before .before .before .before
+
+abbrev start : tie.After-known-told → tie.Start
+start c =
+    let w = c .before .before .before in
+    w .before .before .before .before
+
 mul-places : tie.Need-mul-places
 mul-places c = search needs
 
@@ -53,7 +62,7 @@ array-borrow-prefix-c c = search needs
 
 slice-aggregate-keeps : tie.Need-slice-aggregate-keeps
 slice-aggregate-keeps c =
-    let s = c .before .before .before .before .before .before .before .before .before .before .before .before in
+    let s = start (told c) in
     let h : 3 * s .args .n + 2 * s .args .e ≤ length (now (s .args .m)) = omega arith in
     sym (length-take-le _ _ h)
 

@@ -5,6 +5,13 @@ use Rattle.reader.proofs.Accepting.{accepted-good}
 use Rattle.wait_main.proofs.show_file.Statement.{statement}
 use Rattle.wait_main.proofs.show_file.Tie as tie
 
+-- Back from where the line is printed: to its first number, and to where look is known to have accepted.
+abbrev printed : tie.After-write-all → tie.After-number
+printed c = c .before .before .before .before
+
+abbrev told : tie.After-number → tie.After-enum-told
+told c = c .before .before .before
+
 look-requires : tie.Need-look-requires
 look-requires c κs = search needs
 
@@ -31,7 +38,7 @@ write-all-requires c κs = search needs
 
 show-requires : tie.Need-show-requires
 show-requires c κs =
-    let k = c .before .before .before .before .before .before .before .before .before .before .before in
+    let k = told (printed (c .before .before .before .before)) in
     let l = k .before .before in
     let a = accepted-good (now (l .before .before .args .file)) (l .look .result) (k .enum-told .given .1) (l .look .ensures) in
     (a .wired, a .marked)

@@ -23,7 +23,9 @@ same-length c = search needs
 returns : tie.Need-returns
 returns c =
     let put = c .before .before .put-item in
-    record { long = omega (arith, put-length (put .ensures)); within = omega (arith, put-length (put .ensures), put-within (put .ensures) (put-item-requires (c .before .before .before) (put .lifetimes))) }
+    let length = put-length (put .ensures) in
+    let within = put-within (put .ensures) (put-item-requires (c .before .before .before) (put .lifetimes)) in
+    record { long = omega (arith, length); within = omega (arith, length, within) }
 
 pub put-spec : {M : Type 1} → statement M
 put-spec = tie.close (tie.spec turn-requires slice-aggregate-put-item put-item-requires same-length returns)
