@@ -4,6 +4,7 @@ use net::NODES;
 use refusal::Found;
 ghost use mathlib.Core.Path.{_≡_};
 ghost use Prim.Native.Nat.{_≤_};
+ghost use Rattle.net.specs.Limits.{mostEdges};
 ghost use Rattle.net.specs.Good.{Wired};
 ghost use Rattle.net.specs.Rules.{row7};
 ghost use Rattle.refusal.specs.helpers.Answers.{Finds, Says};
@@ -19,7 +20,7 @@ pub fn wide(x: u8) -> usize
 
 // Marks each node that is an end of an edge: its from, or its to, whichever row is lent.
 fn tick(e: usize, ends: &[u8; EDGES]) -> [u8; NODES]
-    requires { ⌜ e ≤ 128 ⌝ }
+    requires { ⌜ e ≤ mostEdges ⌝ }
     requires { ⌜ Roomy e (now ends) ⌝ }
     ensures { λ r. ⌜ Ticks e (now (ends .entry)) r ⌝ }
 {

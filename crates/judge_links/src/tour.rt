@@ -3,6 +3,7 @@ use crate::linked::wide;
 use net::EDGES;
 use net::NODES;
 ghost use Prim.Native.Nat.{_+_, _*_, _<_, _≤_};
+ghost use Rattle.net.specs.Limits.{mostNodes};
 ghost use Rattle.judge_links.specs.helpers.Ticks.{Ended};
 
 // Both ends of every edge. Entry 2k + 1 stands for the end that edge k leaves, 2k + 2 for the one it enters, and 0 for none.
@@ -21,7 +22,7 @@ fn entry(x: u16) -> usize
 
 // Entry q heads the list of node v.
 fn link(v: usize, q: usize, head: &mut [u16; NODES], next: &mut [u16; ENDS])
-    requires { ⌜ (v < 42) × (0 < q) × (q ≤ 256) ⌝ }
+    requires { ⌜ (v < mostNodes) × (0 < q) × (q ≤ 256) ⌝ }
 {
     next[q - 1] = head[v];
     head[v] = q as u16;
@@ -95,8 +96,8 @@ fn meet(
     by: &mut [u8; NODES],
     end: usize,
 ) -> usize
-    requires { ⌜ (0 < q) × (q ≤ 256) × (end ≤ 42) ⌝ }
-    ensures { λ r. ⌜ r ≤ 42 ⌝ }
+    requires { ⌜ (0 < q) × (q ≤ 256) × (end ≤ mostNodes) ⌝ }
+    ensures { λ r. ⌜ r ≤ mostNodes ⌝ }
 {
     let u = other(q, from, to);
     if u >= NODES {
@@ -125,8 +126,8 @@ fn visit(
     by: &mut [u8; NODES],
     start: usize,
 ) -> usize
-    requires { ⌜ start ≤ 42 ⌝ }
-    ensures { λ r. ⌜ r ≤ 42 ⌝ }
+    requires { ⌜ start ≤ mostNodes ⌝ }
+    ensures { λ r. ⌜ r ≤ mostNodes ⌝ }
 {
     let mut end = start;
     let mut q = entry(first);
@@ -149,8 +150,8 @@ fn visit_node(
     by: &mut [u8; NODES],
     end: usize,
 ) -> usize
-    requires { ⌜ end ≤ 42 ⌝ }
-    ensures { λ r. ⌜ r ≤ 42 ⌝ }
+    requires { ⌜ end ≤ mostNodes ⌝ }
+    ensures { λ r. ⌜ r ≤ mostNodes ⌝ }
 {
     if v >= NODES {
         return end;

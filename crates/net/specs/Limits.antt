@@ -14,6 +14,10 @@ mostOperations = 40
 abbrev pub mostEdges : ℕ
 mostEdges = 128
 
+-- The most nodes: source, operations and sink.
+abbrev pub mostNodes : ℕ
+mostNodes = 42
+
 -- The longest time of an operation, in units.
 abbrev pub longestTime : ℕ
 longestTime = 1000000

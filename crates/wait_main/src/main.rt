@@ -13,6 +13,7 @@ use waiting::reply::Wait;
 use waiting::wait;
 ghost use mathlib.Core.Path.{_≡_};
 ghost use lib.ListN.{length};
+ghost use Rattle.net.specs.Limits.{mostPlaces};
 ghost use Rattle.net.specs.Good.{Marked, Wired};
 
 fn number(label: &[u8], x: u64) {
@@ -31,7 +32,7 @@ fn line<'a>(
     t: u16,
 )
     requires { ⌜ Wired n e (now from) (now to) ⌝ }
-    requires { ⌜ length (now m) ≡ 376 ⌝ }
+    requires { ⌜ length (now m) ≡ mostPlaces ⌝ }
 {
     let places = 3 * n + 2 * e;
     let mut c = *m;
@@ -57,7 +58,7 @@ fn lines<'a>(
     m: &[u8; PLACES],
 )
     requires { ⌜ Wired n e (now from) (now to) ⌝ }
-    requires { ⌜ length (now m) ≡ 376 ⌝ }
+    requires { ⌜ length (now m) ≡ mostPlaces ⌝ }
 {
     let end = (3 * n + 2) as u16;
     let mut t = 0;
@@ -78,7 +79,7 @@ fn after<'a>(
     times: u32,
 )
     requires { ⌜ Wired n e (now from) (now to) ⌝ }
-    requires { ⌜ length (now m) ≡ 376 ⌝ }
+    requires { ⌜ length (now m) ≡ mostPlaces ⌝ }
 {
     let places = 3 * n + 2 * e;
     let mut c = *m;

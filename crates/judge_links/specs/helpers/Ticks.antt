@@ -4,17 +4,18 @@ use mathlib.Core.Path.{_≡_}
 use mathlib.Core.Bool.{Bool, true, false}
 use mathlib.Core.List.{List, [], _∷_}
 use lib.ListN.{length}
+use Rattle.net.specs.Limits.{mostEdges, mostNodes}
 use Rattle.marked.specs.Net.{at}
 use Rattle.net.specs.Plan.{Joined, wires}
 use Rattle.net.specs.Rules.{Touched}
 
 -- Each of the first e entries is a node that some graph may have: there is room for it among the marks.
 abbrev pub Roomy : ℕ → List ℕ → Type 0
-Roomy e ends = (k : ℕ) → k < e → at ends k < 42
+Roomy e ends = (k : ℕ) → k < e → at ends k < mostNodes
 
 -- At most 128 edges, and their ends are such nodes.
 pub record Ended (e : ℕ) (from to : List ℕ) : Type 0 where
-  pub edges : e ≤ 128
+  pub edges : e ≤ mostEdges
   pub leaves : Roomy e from
   pub enters : Roomy e to
 
@@ -30,7 +31,7 @@ pub record Bound (n x out into : ℕ) : Type 0 where
 
 -- Marks so far: the source is marked, and whatever is marked is joined to it.
 pub record Reached (e : ℕ) (from to seen : List ℕ) : Type 0 where
-  pub long : length seen ≡ 42
+  pub long : length seen ≡ mostNodes
   pub start : at seen 0 ≡ 1
   pub bits : (n : ℕ) → at seen n ≤ 1
   pub sound : (n : ℕ) → at seen n ≡ 1 → Joined (wires 0 e from to) n
