@@ -1,4 +1,4 @@
--- The number and the place that document 01's table has for each case of a reply, 0 and 0 where the call is done, and the count that it tells. (Those of look, start, step and run stand with them.)
+-- The number and the place that document 01's table has for each case of a reply (0 and 0 where the call is done), and the count that it tells.
 use Prim.Native.Nat.{ℕ}
 use Rattle.refusal.specs.declared.Refusal.{Refusal}
 use Rattle.refusal.specs.None.{noRefusal}

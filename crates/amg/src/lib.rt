@@ -27,7 +27,9 @@ pub extern "C" fn amg_look(
     to: &mut [u8; EDGES],
     mark: &mut [u8; EDGES],
 ) -> u64
-    ensures { λ w. ⌜ LookCall (now (file .entry)) (tables (now (counts .entry)) (now (times .entry)) (now (from .entry)) (now (to .entry)) (now (mark .entry))) w (tables (now (counts .exit)) (now (times .exit)) (now (from .exit)) (now (to .exit)) (now (mark .exit))) ⌝ }
+    ensures { λ w. ⌜ LookCall (now (file .entry))
+        (tables (now (counts .entry)) (now (times .entry)) (now (from .entry)) (now (to .entry)) (now (mark .entry))) w
+        (tables (now (counts .exit)) (now (times .exit)) (now (from .exit)) (now (to .exit)) (now (mark .exit))) ⌝ }
 {
     let looked = reader::look(file);
     let verdict = looked.verdict;
