@@ -1,6 +1,6 @@
 // The circuit in travel order: the notes of the search lead back from its end.
-use fraction::widen::index;
-use fraction::widen::number;
+use casts::byte_index;
+use casts::word_index;
 use net::PLACES;
 use net::TRANSITIONS;
 ghost use mathlib.Core.Logic.{_≢_};
@@ -30,8 +30,8 @@ fn count_back(
     let mut x = goal;
     let mut k: usize = 1;
     while x != root {
-        let q = index(via[x]) - 1;
-        x = number(src[q]);
+        let q = word_index(via[x]) - 1;
+        x = byte_index(src[q]);
         k += 1;
     }
     k
@@ -53,16 +53,16 @@ pub fn hand_out(
     requires { ⌜ FirstNoted (drawn nt np (now src) (now dst)) (Listed (now dst)) (at (now dst) p) (at (now src) p) (at (now via)) ⌝ }
     ensures { λ k. ⌜ Written nt np (now (src .entry)) (now (dst .entry)) p (now (ring .entry)) k (now (ring .exit)) ⌝ }
 {
-    let goal = number(src[p]);
-    let root = number(dst[p]);
+    let goal = byte_index(src[p]);
+    let root = byte_index(dst[p]);
     let len = count_back(nt, np, next, src, dst, via, root, goal);
     let mut x = goal;
     let mut k = len;
     while x != root {
-        let q = index(via[x]) - 1;
+        let q = word_index(via[x]) - 1;
         k -= 1;
         ring[k] = q as u16;
-        x = number(src[q]);
+        x = byte_index(src[q]);
     }
     ring[0] = p as u16;
     len

@@ -1,7 +1,7 @@
 // The lowest place on a circuit of tight places, and the first such circuit: an ordered depth-first search that never takes a mark back.
+use casts::byte_index;
+use casts::word_index;
 use circuit_tight::LOOSE;
-use fraction::widen::index;
-use fraction::widen::number;
 use net::PLACES;
 use net::TRANSITIONS;
 ghost use mathlib.Core.Path.{_≡_};
@@ -37,17 +37,17 @@ fn turn(
     ensures { λ r. ⌜ Turned nt np (now (src .entry)) (now (dst .entry)) root goal (now (cur .entry)) (now (seen .exit)) (now (via .exit))
         (now (cur .exit)) r ⌝ }
 {
-    let q = index(cur[x]);
+    let q = word_index(cur[x]);
     if q == np {
         cur[x] = (np + 1) as u16;
         if x == root {
             return Move::GivenUp;
         }
-        let p = index(via[x]) - 1;
-        return Move::At(number(src[p]));
+        let p = word_index(via[x]) - 1;
+        return Move::At(byte_index(src[p]));
     }
     cur[x] = next[q];
-    let y = number(dst[q]);
+    let y = byte_index(dst[q]);
     if y == goal {
         via[y] = (q + 1) as u16;
         return Move::Reached;
@@ -76,8 +76,8 @@ fn search(
     requires { ⌜ (p < np) × Listed (now dst) p × (length (now via) ≡ mostTransitions) ⌝ }
     ensures { λ r. ⌜ Sought nt np (now (src .entry)) (now (dst .entry)) p (now (via .exit)) r ⌝ }
 {
-    let goal = number(src[p]);
-    let root = number(dst[p]);
+    let goal = byte_index(src[p]);
+    let root = byte_index(dst[p]);
     let mut seen = [0u8; TRANSITIONS];
     let mut cur = *head;
     seen[root] = 1;

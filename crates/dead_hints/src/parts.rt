@@ -1,9 +1,9 @@
 // Levels by strong components, found by a depth-first search (Tarjan): transitions of one component share a level, and an empty place out of it leads higher.
+use casts::byte_index;
+use casts::word_index;
 use crate::lists::follow;
 use crate::lists::goal_of;
-use crate::lists::index;
 use crate::lists::link_places;
-use crate::lists::wide;
 use net::EDGES;
 use net::PLACES;
 use net::TRANSITIONS;
@@ -97,7 +97,7 @@ fn meet(
 fn settle(h: usize, x: u8, pile: &[u8; TRANSITIONS], level: &mut [u8; TRANSITIONS]) -> usize
     requires { ⌜ h < mostTransitions ⌝ }
 {
-    let u = index(pile[h]);
+    let u = byte_index(pile[h]);
     if u >= TRANSITIONS {
         return u;
     }
@@ -151,7 +151,7 @@ fn hand_back(t: usize, d: usize, level: &mut [u8; TRANSITIONS], path: &[u8; TRAN
     if d < 2 {
         return;
     }
-    let s = index(path[d - 2]);
+    let s = byte_index(path[d - 2]);
     if s >= TRANSITIONS {
         return;
     }
@@ -200,11 +200,11 @@ fn advance(
     if d > TRANSITIONS {
         return s;
     }
-    let t = index(path[d - 1]);
+    let t = byte_index(path[d - 1]);
     if t >= TRANSITIONS {
         return s;
     }
-    let q = wide(head[t]);
+    let q = word_index(head[t]);
     if q == 0 {
         return leave(s, t, d, number, level, path, pile);
     }

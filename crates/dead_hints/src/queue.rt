@@ -1,9 +1,9 @@
 // Levels by a queue: a transition is struck out once every empty place into it comes from one struck out before it.
+use casts::byte_index;
+use casts::word_index;
 use crate::lists::follow;
 use crate::lists::goal_of;
-use crate::lists::index;
 use crate::lists::link_places;
-use crate::lists::wide;
 use net::EDGES;
 use net::PLACES;
 use net::TRANSITIONS;
@@ -88,7 +88,7 @@ fn strike(
     ensures { λ r. ⌜ r ≤ mostTransitions ⌝ }
 {
     let mut end = start;
-    let mut q = wide(first);
+    let mut q = word_index(first);
     while q > 0 {
         end = lift(goal_of(goal, q), inputs, queue, end);
         q = follow(next, q);
@@ -133,7 +133,7 @@ fn strike_out(
     let mut end = seed(n, inputs, &mut queue);
     let mut at = 0;
     while at < end {
-        let t = index(queue[at]);
+        let t = byte_index(queue[at]);
         end = take(t, at, head, next, goal, inputs, &mut queue, level, end);
         at += 1;
     }

@@ -1,9 +1,9 @@
 // The way to each transition: the empty place by which a search from one transition first reaches it.
+use casts::byte_index;
+use casts::word_index;
 use crate::lists::follow;
 use crate::lists::goal_of;
-use crate::lists::index;
 use crate::lists::link_places;
-use crate::lists::wide;
 use crate::queue::push;
 use net::EDGES;
 use net::PLACES;
@@ -46,7 +46,7 @@ fn spread(
     ensures { λ r. ⌜ r ≤ mostTransitions ⌝ }
 {
     let mut end = start;
-    let mut q = wide(first);
+    let mut q = word_index(first);
     while q > 0 {
         end = note(q, goal_of(goal, q), via, queue, end);
         q = follow(next, q);
@@ -87,7 +87,7 @@ fn reach(
     let mut end = push(t, &mut queue, 0);
     let mut done = 0;
     while done < end {
-        end = spread_from(index(queue[done]), head, next, goal, via, &mut queue, end);
+        end = spread_from(byte_index(queue[done]), head, next, goal, via, &mut queue, end);
         done += 1;
     }
 }

@@ -1,5 +1,5 @@
 // Row 8: the lowest node that is not joined to the source. Marks spread along the edges, pass after pass, until a pass marks nothing; a tour saves passes.
-use crate::linked::wide;
+use casts::byte_index;
 use crate::tour::tour;
 use net::EDGES;
 use net::NODES;
@@ -26,8 +26,8 @@ fn spread(
     requires { ⌜ k < e ⌝ }
     ensures { λ r. ⌜ Spread e (now (from .entry)) (now (to .entry)) k (now (seen .entry)) changed (now (seen .exit)) r ⌝ }
 {
-    let a = wide(from[k]);
-    let b = wide(to[k]);
+    let a = byte_index(from[k]);
+    let b = byte_index(to[k]);
     if seen[a] == seen[b] {
         return changed;
     }
@@ -71,7 +71,7 @@ fn lead(e: usize, from: &[u8; EDGES], to: &[u8; EDGES], by: &[u8; NODES], seen: 
 {
     let mut j = 1;
     while j < NODES {
-        lead_by(e, from, to, wide(by[j]), seen);
+        lead_by(e, from, to, byte_index(by[j]), seen);
         j += 1;
     }
 }

@@ -1,4 +1,5 @@
 // Row 7: the lowest node that lacks an edge out or an edge in. One pass over the edges, then one over the nodes.
+use casts::byte_index;
 use net::EDGES;
 use net::NODES;
 use refusal::Found;
@@ -11,13 +12,6 @@ ghost use Rattle.refusal.specs.helpers.Answers.{Finds, Says};
 ghost use Rattle.net.specs.Plan.{wires};
 ghost use Rattle.judge_links.specs.helpers.Ticks.{Bound, Roomy, Ticks};
 
-// A node's byte as an index.
-pub fn wide(x: u8) -> usize
-    ensures { λ r. ⌜ r ≡ x ⌝ }
-{
-    x as usize
-}
-
 // Marks each node that is an end of an edge: its from, or its to, whichever row is lent.
 fn tick(e: usize, ends: &[u8; EDGES]) -> [u8; NODES]
     requires { ⌜ e ≤ mostEdges ⌝ }
@@ -27,7 +21,7 @@ fn tick(e: usize, ends: &[u8; EDGES]) -> [u8; NODES]
     let mut seen = [0u8; NODES];
     let mut k = 0;
     while k < e {
-        let node = wide(ends[k]);
+        let node = byte_index(ends[k]);
         seen[node] = 1;
         k += 1;
     }

@@ -1,5 +1,5 @@
 // A hint for row 8: the edge by which a search from the source first reaches each node, in the order of the search. Only proved safe.
-use crate::linked::wide;
+use casts::byte_index;
 use net::EDGES;
 use net::NODES;
 ghost use Prim.Native.Nat.{_+_, _*_, _<_, _≤_};
@@ -40,8 +40,8 @@ fn link_edge(
     requires { ⌜ Ended e (now from) (now to) ⌝ }
     requires { ⌜ k < e ⌝ }
 {
-    let a = wide(from[k]);
-    let b = wide(to[k]);
+    let a = byte_index(from[k]);
+    let b = byte_index(to[k]);
     link(a, 2 * k + 1, head, next);
     link(b, 2 * k + 2, head, next);
 }
@@ -81,9 +81,9 @@ fn other(q: usize, from: &[u8; EDGES], to: &[u8; EDGES]) -> usize
 {
     let k = (q - 1) / 2;
     if (q - 1) % 2 == 0 {
-        return wide(to[k]);
+        return byte_index(to[k]);
     }
-    wide(from[k])
+    byte_index(from[k])
 }
 
 // The node that entry q leads to joins the queue, with the edge, unless it was met before.
@@ -173,7 +173,7 @@ fn search(
     let mut end = 1;
     let mut done = 0;
     while done < end {
-        let v = wide(queue[done]);
+        let v = byte_index(queue[done]);
         end = visit_node(v, from, to, head, next, &mut met, &mut queue, by, end);
         done += 1;
     }

@@ -1,14 +1,9 @@
 // Little-endian numbers, read from a slice of bytes.
+use casts::byte_wide;
 ghost use mathlib.Core.Path.{_≡_};
 ghost use Prim.Native.Nat.{_+_, _<_};
 ghost use lib.ListN.{length};
 ghost use Rattle.little.specs.Little.{byteAt, word, quad};
-
-fn wide(x: u8) -> u32
-    ensures { λ r. ⌜ (r ≡ x) × (r < 256) ⌝ }
-{
-    x as u32
-}
 
 pub fn byte(s: &[u8], at: usize) -> u8
     requires { ⌜ at < length (now s) ⌝ }
@@ -22,8 +17,8 @@ pub fn word(s: &[u8], at: usize) -> u16
     requires { ⌜ at + 1 < length (now s) ⌝ }
     ensures { λ r. ⌜ r ≡ word (now (s .entry)) at ⌝ }
 {
-    let low = wide(s[at]);
-    let high = wide(s[at + 1]);
+    let low = byte_wide(s[at]);
+    let high = byte_wide(s[at + 1]);
     (low + 256 * high) as u16
 }
 

@@ -1,4 +1,5 @@
 // Prints the dead transition, if there is one, and the distances from every transition, for document 01's graphs P1 to P6 at the start.
+use casts::word_long;
 use dead::first_dead;
 use net::EDGES;
 use net::PLACES;
@@ -38,10 +39,6 @@ fn column(edges: &[u8; 15], e: usize, c: usize, least: u8, most: u8) -> [u8; EDG
     out
 }
 
-fn wide(x: u16) -> u64 {
-    x as u64
-}
-
 // The first k entries, in one line.
 fn line(d: &[u16; TRANSITIONS], k: usize)
     requires { ⌜ k ≤ 122 ⌝ }
@@ -49,7 +46,7 @@ fn line(d: &[u16; TRANSITIONS], k: usize)
     let mut u = 0;
     while u < k {
         io::write_all(1, b" ");
-        io::print_decimal(1, wide(d[u]));
+        io::print_decimal(1, word_long(d[u]));
         u += 1;
     }
     io::write_all(1, b"\n");

@@ -1,4 +1,6 @@
 // The seven calls, each with its line: the name, the refusal's number and place, the values, and the lent memory afterwards.
+use casts::byte_long;
+use casts::quad_long;
 use crate::print::bytes;
 use crate::print::entries;
 use crate::print::head;
@@ -16,20 +18,12 @@ use waiting::reply::Wait;
 ghost use Prim.Native.Nat.{_≤_};
 ghost use Rattle.net.specs.Limits.{mostEdges, mostOperations};
 
-fn long(x: u32) -> u64 {
-    x as u64
-}
-
-fn wide(x: u8) -> u64 {
-    x as u64
-}
-
 fn times(xs: &[u32; Graph::OPERATIONS], n: usize)
     requires { ⌜ n ≤ mostOperations ⌝ }
 {
     let mut i = 0;
     while i < n {
-        number(long(xs[i]));
+        number(quad_long(xs[i]));
         i += 1;
     }
 }
@@ -44,9 +38,9 @@ fn rows<'a>(
 {
     let mut e = 0;
     while e < n {
-        number(wide(from[e]));
-        number(wide(to[e]));
-        number(wide(mark[e]));
+        number(byte_long(from[e]));
+        number(byte_long(to[e]));
+        number(byte_long(mark[e]));
         e += 1;
     }
 }

@@ -1,4 +1,5 @@
 // What a line is made of: words, numbers behind a blank, and the lent memory, which ends it.
+use casts::byte_word;
 use refusal::Refusal;
 ghost use Rattle.records.specs.Page.{Page, Roomy};
 
@@ -51,17 +52,13 @@ fn put(page: &mut [u8], at: usize, x: u16) -> usize
     pen::put_item(page, next, b" ", x as u64)
 }
 
-fn wide(x: u8) -> u16 {
-    x as u16
-}
-
 pub fn bytes(memory: &[u8]) {
     word(b" memory");
     let mut page = [0u8; PAGE];
     let mut at = 0;
     let mut i = 0;
     while i < memory.len() {
-        at = put(&mut page, at, wide(memory[i]));
+        at = put(&mut page, at, byte_word(memory[i]));
         i += 1;
     }
     out(&page, at);

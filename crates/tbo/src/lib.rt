@@ -2,9 +2,9 @@
 pub mod improve;
 pub mod round;
 
+use casts::byte_long;
+use casts::quad_long;
 use fraction::lowest::Ratio;
-use fraction::widen::count;
-use fraction::widen::wide;
 use improve::Improvement;
 use net::EDGES;
 use net::PLACES;
@@ -27,7 +27,7 @@ fn ring_time(times: &[u32; TRANSITIONS], i: usize) -> u64
     ensures { λ r. ⌜ r ≡ at (now (times .entry)) (3 * i + 1) + at (now (times .entry)) (3 * i + 2) + at (now (times .entry)) (3 * i + 3) ⌝ }
 {
     let p = 3 * i;
-    wide(times[p + 1]) + wide(times[p + 2]) + wide(times[p + 3])
+    quad_long(times[p + 1]) + quad_long(times[p + 2]) + quad_long(times[p + 3])
 }
 
 // Its tokens: the sum of those of its three places.
@@ -36,7 +36,7 @@ fn ring_tokens(marking: &[u8; PLACES], i: usize) -> u64
     ensures { λ r. ⌜ r ≡ at (now (marking .entry)) (3 * i) + at (now (marking .entry)) (3 * i + 1) + at (now (marking .entry)) (3 * i + 2) ⌝ }
 {
     let p = 3 * i;
-    count(marking[p]) + count(marking[p + 1]) + count(marking[p + 2])
+    byte_long(marking[p]) + byte_long(marking[p + 1]) + byte_long(marking[p + 2])
 }
 
 // A row of an operation, and no more is promised of it. (It is one whose ring takes longest, which leaves little to improve.)

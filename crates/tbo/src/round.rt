@@ -1,7 +1,7 @@
 // Back along the noted places: as far as there are transitions, and once round where they come round.
-use fraction::widen::count;
-use fraction::widen::index;
-use fraction::widen::wide;
+use casts::byte_long;
+use casts::quad_long;
+use casts::word_index;
 use net::EDGES;
 use net::PLACES;
 use net::TRANSITIONS;
@@ -33,7 +33,7 @@ pub fn follow(
     let mut w = v;
     let mut k = 0;
     while k < 3 * n + 2 {
-        let q = index(pred[w]);
+        let q = word_index(pred[w]);
         if q == 0 {
             return w;
         }
@@ -71,10 +71,10 @@ pub fn go_round(
     // The proof that the walk comes back counts its steps.
     let mut k: usize = 0;
     loop {
-        let p = index(pred[x]) - 1;
+        let p = word_index(pred[x]) - 1;
         x = ends::place_src(n, e, from, to, p);
-        time += wide(times[x]);
-        tokens += count(marking[p]);
+        time += quad_long(times[x]);
+        tokens += byte_long(marking[p]);
         k += 1;
         if x == w {
             return Ring { time, tokens };

@@ -1,6 +1,6 @@
 // The order in which a sweep takes operations and edges: along the places without a token, so that one sweep carries a rise along a whole way of them.
 // Any order is right, and only the number of sweeps depends on it: so what is proved of it is that no item is missing.
-use fraction::widen::number;
+use casts::byte_index;
 use net::EDGES;
 use net::OPERATIONS;
 use net::PLACES;
@@ -107,7 +107,7 @@ fn enlist(
     while i < n + e {
         let x = item(n, e, i);
         left[i] = x;
-        let t = goal(n, e, from, to, marking, number(x));
+        let t = goal(n, e, from, to, marking, byte_index(x));
         wait[t] = more(wait[t]);
         i += 1;
     }
@@ -151,7 +151,7 @@ fn take(
     ensures { λ r. ⌜ Took n e (now (left .exit)) (now (ord .exit)) force i l m (r .kept) (r .put) ⌝ }
 {
     let x = left[i];
-    let k = number(x);
+    let k = byte_index(x);
     if ready(force, wait[gate(n, e, from, to, marking, k)]) {
         let t = goal(n, e, from, to, marking, k);
         wait[t] = less(wait[t]);

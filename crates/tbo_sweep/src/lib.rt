@@ -1,6 +1,6 @@
 // One sweep: every place once. Where a place leads higher than its transition stands, the transition is raised and the place noted.
+use casts::byte_index;
 use fraction::weigh;
-use fraction::widen::number;
 use net::EDGES;
 use net::PLACES;
 use net::TRANSITIONS;
@@ -170,7 +170,7 @@ pub fn sweep(
         last = raise_item(
             n,
             e,
-            number(ord[j]),
+            byte_index(ord[j]),
             from,
             to,
             marking,

@@ -13,30 +13,30 @@ Inv-loop nt np head next src dst p via₀ goal root seen₀ cur₀ x₀ via seen
 abbrev μ-loop : tie.MeasureT-loop
 μ-loop nt np head next src dst p via₀ goal root seen₀ cur₀ x₀ via seen cur x = left np cur
 
-element-copy-out-number : tie.Need-element-copy-out-number Inv-loop μ-loop
-element-copy-out-number c = omega (arith, c .pre .0 .many, c .pre .1 .1 .0)
+element-copy-out-byte-index : tie.Need-element-copy-out-byte-index Inv-loop μ-loop
+element-copy-out-byte-index c = omega (arith, c .pre .0 .many, c .pre .1 .1 .0)
 
-number-requires : tie.Need-number-requires Inv-loop μ-loop
-number-requires c κs = tt
+byte-index-requires : tie.Need-byte-index-requires Inv-loop μ-loop
+byte-index-requires c κs = tt
 
-element-copy-out-number-2 : tie.Need-element-copy-out-number-2 Inv-loop μ-loop
-element-copy-out-number-2 c = omega (arith, c .before .before .pre .0 .many, c .before .before .pre .1 .1 .0)
+element-copy-out-byte-index-2 : tie.Need-element-copy-out-byte-index-2 Inv-loop μ-loop
+element-copy-out-byte-index-2 c = omega (arith, c .before .before .pre .0 .many, c .before .before .pre .1 .1 .0)
 
-number-requires-2 : tie.Need-number-requires-2 Inv-loop μ-loop
-number-requires-2 c κs = tt
+byte-index-requires-2 : tie.Need-byte-index-requires-2 Inv-loop μ-loop
+byte-index-requires-2 c κs = tt
 
 array-write-seen : tie.Need-array-write-seen Inv-loop μ-loop
 array-write-seen c =
     let start = c .before .before .before .before .before in
-    omega (arith, start .pre .0 .enters (start .args .p) (start .pre .1 .1 .0) (start .pre .1 .1 .1), c .before .number2 .ensures .0, start .pre .0 .few)
+    omega (arith, start .pre .0 .enters (start .args .p) (start .pre .1 .1 .0) (start .pre .1 .1 .1), c .before .byte-index2 .ensures .0, start .pre .0 .few)
 
 loop-holds : tie.Need-loop-holds Inv-loop μ-loop
 loop-holds c =
     let start = c .before .before .before .before .before in
-    let number = c .before .before .before .number in
+    let number = c .before .before .before .byte-index in
     let enters = start .pre .0 .enters (start .args .p) (start .pre .1 .1 .0) (start .pre .1 .1 .1) in
     let apart = start .pre .0 .apart (start .args .p) (start .pre .1 .1 .0) (start .pre .1 .1 .1) in
-    let root = c .before .number2 .ensures .0 in
+    let root = c .before .byte-index2 .ensures .0 in
     under-start (start .pre .0) (start .pre .1 .0) (omega (arith, enters, root)) (λ z. apart (sym (number .ensures .0) ∙ z ∙ root)) (start .pre .1 .1 .2)
 
 turn-requires : tie.Need-turn-requires Inv-loop μ-loop
@@ -66,7 +66,7 @@ returns c =
     let at-cur = at-turn .before .before .before .before .before in
     let at-number2 = at-cur .before in
     let at-number = at-number2 .before .before in
-    sought-yes (at-number2 .number2 .ensures .0) (at-number .number .ensures .0) (outcome-got (at-turn .turn .ensures .outcome) (c .enum-told .given .1))
+    sought-yes (at-number2 .byte-index2 .ensures .0) (at-number .byte-index .ensures .0) (outcome-got (at-turn .turn .ensures .outcome) (c .enum-told .given .1))
 
 enum-told-2 : tie.Need-enum-told-2 Inv-loop μ-loop
 enum-told-2 c = search needs
@@ -77,7 +77,7 @@ returns-2 c =
     let at-cur = at-turn .before .before .before .before .before in
     let at-number2 = at-cur .before in
     let at-number = at-number2 .before .before in
-    sought-no (at-number2 .number2 .ensures .0) (at-number .number .ensures .0) (outcome-gone (at-turn .turn .ensures .outcome) (c .enum-told2 .given .1))
+    sought-no (at-number2 .byte-index2 .ensures .0) (at-number .byte-index .ensures .0) (outcome-gone (at-turn .turn .ensures .outcome) (c .enum-told2 .given .1))
 
 pub search-spec : {M : Type 1} → statement M
 search-spec =
@@ -85,10 +85,10 @@ search-spec =
     (tie.spec
     Inv-loop
     μ-loop
-    element-copy-out-number
-    number-requires
-    element-copy-out-number-2
-    number-requires-2
+    element-copy-out-byte-index
+    byte-index-requires
+    element-copy-out-byte-index-2
+    byte-index-requires-2
     array-write-seen
     loop-holds
     turn-requires

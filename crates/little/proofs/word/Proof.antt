@@ -5,20 +5,20 @@ use Rattle.little.specs.Little.{word}
 use Rattle.little.proofs.word.Statement.{statement}
 use Rattle.little.proofs.word.Tie as tie
 
-shared-slice-read-wide : tie.Need-shared-slice-read-wide
-shared-slice-read-wide c = search needs
+shared-slice-read-byte-wide : tie.Need-shared-slice-read-byte-wide
+shared-slice-read-byte-wide c = search needs
 
-wide-requires : tie.Need-wide-requires
-wide-requires c κs = search needs
+byte-wide-requires : tie.Need-byte-wide-requires
+byte-wide-requires c κs = search needs
 
-add-wide : tie.Need-add-wide
-add-wide c = search needs
+add-byte-wide : tie.Need-add-byte-wide
+add-byte-wide c = search needs
 
-shared-slice-read-wide-2 : tie.Need-shared-slice-read-wide-2
-shared-slice-read-wide-2 c = search needs
+shared-slice-read-byte-wide-2 : tie.Need-shared-slice-read-byte-wide-2
+shared-slice-read-byte-wide-2 c = search needs
 
-wide-requires-2 : tie.Need-wide-requires-2
-wide-requires-2 c κs = search needs
+byte-wide-requires-2 : tie.Need-byte-wide-requires-2
+byte-wide-requires-2 c κs = search needs
 
 mul-result : tie.Need-mul-result
 mul-result c = search needs
@@ -37,11 +37,11 @@ pub word-spec : {M : Type 1} → statement M
 word-spec =
     tie.close
     (tie.spec
-    shared-slice-read-wide
-    wide-requires
-    add-wide
-    shared-slice-read-wide-2
-    wide-requires-2
+    shared-slice-read-byte-wide
+    byte-wide-requires
+    add-byte-wide
+    shared-slice-read-byte-wide-2
+    byte-wide-requires-2
     mul-result
     add-result
     cast-result

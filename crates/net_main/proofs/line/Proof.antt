@@ -19,14 +19,14 @@ slice-aggregate-write-all c = search needs
 write-all-requires : tie.Need-write-all-requires Inv-loop μ-loop
 write-all-requires c κs = search needs
 
-mul-wide : tie.Need-mul-wide Inv-loop μ-loop
-mul-wide c = search needs
+mul-word-long : tie.Need-mul-word-long Inv-loop μ-loop
+mul-word-long c = search needs
 
-element-copy-out-wide : tie.Need-element-copy-out-wide Inv-loop μ-loop
-element-copy-out-wide c = search needs
+element-copy-out-word-long : tie.Need-element-copy-out-word-long Inv-loop μ-loop
+element-copy-out-word-long c = search needs
 
-wide-requires : tie.Need-wide-requires Inv-loop μ-loop
-wide-requires c κs = search needs
+word-long-requires : tie.Need-word-long-requires Inv-loop μ-loop
+word-long-requires c κs = search needs
 
 print-decimal-requires : tie.Need-print-decimal-requires Inv-loop μ-loop
 print-decimal-requires c κs = search needs
@@ -58,9 +58,9 @@ line-spec =
     loop-holds
     slice-aggregate-write-all
     write-all-requires
-    mul-wide
-    element-copy-out-wide
-    wide-requires
+    mul-word-long
+    element-copy-out-word-long
+    word-long-requires
     print-decimal-requires
     add-u
     loop-less

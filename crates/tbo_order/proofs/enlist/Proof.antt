@@ -29,13 +29,13 @@ element-write-left c =
     let start = at-loop .before in
     omega (arith, start .pre .0 .operations, start .pre .0 .edges, at-loop .loop .inv .1 .long)
 
-number-requires : tie.Need-number-requires Inv-loop μ-loop
-number-requires c κs = search needs
+byte-index-requires : tie.Need-byte-index-requires Inv-loop μ-loop
+byte-index-requires c κs = search needs
 
 goal-requires : tie.Need-goal-requires Inv-loop μ-loop
 goal-requires c κs =
     let start = c .before .before .before .before in
-    (start .pre .0, subst (Item (start .args .n) (start .args .e)) (sym (c .number .ensures .0)) (listed-item _ _ _ (omega arith) (c .before .item .ensures)))
+    (start .pre .0, subst (Item (start .args .n) (start .args .e)) (sym (c .byte-index .ensures .0)) (listed-item _ _ _ (omega arith) (c .before .item .ensures)))
 
 element-copy-out-more : tie.Need-element-copy-out-more Inv-loop μ-loop
 element-copy-out-more c = omega (arith, c .goal .ensures)
@@ -75,7 +75,7 @@ enlist-spec =
     add-loop
     item-requires
     element-write-left
-    number-requires
+    byte-index-requires
     goal-requires
     element-copy-out-more
     more-requires

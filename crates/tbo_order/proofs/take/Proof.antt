@@ -11,13 +11,13 @@ use Rattle.tbo_order.proofs.take.Tie as tie
 element-copy-out-x : tie.Need-element-copy-out-x
 element-copy-out-x c = omega (arith, room-next (c .pre .1 .1) (c .pre .0 .operations) (c .pre .0 .edges) (c .pre .1 .0), c .pre .1 .1 .wide)
 
-number-requires : tie.Need-number-requires
-number-requires c κs = search needs
+byte-index-requires : tie.Need-byte-index-requires
+byte-index-requires c κs = search needs
 
 gate-requires : tie.Need-gate-requires
 gate-requires c κs =
     let start = c .before .before in
-    (start .pre .0, subst (Item (start .args .n) (start .args .e)) (sym (c .number .ensures .0)) (sort-item (start .pre .1 .1) (start .pre .0 .operations) (start .pre .0 .edges) (start .pre .1 .0)))
+    (start .pre .0, subst (Item (start .args .n) (start .args .e)) (sym (c .byte-index .ensures .0)) (sort-item (start .pre .1 .1) (start .pre .0 .operations) (start .pre .0 .edges) (start .pre .1 .0)))
 
 element-copy-out-ready : tie.Need-element-copy-out-ready
 element-copy-out-ready c = search needs
@@ -30,7 +30,7 @@ goal-requires c κs =
     let at-number = c .before .before .before .before in
     let start = at-number .before .before in
     let item = sort-item (start .pre .1 .1) (start .pre .0 .operations) (start .pre .0 .edges) (start .pre .1 .0) in
-    (start .pre .0, subst (Item (start .args .n) (start .args .e)) (sym (at-number .number .ensures .0)) item)
+    (start .pre .0, subst (Item (start .args .n) (start .args .e)) (sym (at-number .byte-index .ensures .0)) item)
 
 element-copy-out-less : tie.Need-element-copy-out-less
 element-copy-out-less c = search needs
@@ -73,7 +73,7 @@ take-spec =
     tie.close
     (tie.spec
     element-copy-out-x
-    number-requires
+    byte-index-requires
     gate-requires
     element-copy-out-ready
     ready-requires

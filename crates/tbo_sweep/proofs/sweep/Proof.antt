@@ -31,20 +31,20 @@ add-loop c =
     let start = c .before in
     omega (arith, start .pre .0 .wired .operations, start .pre .0 .wired .edges)
 
-element-copy-out-number : tie.Need-element-copy-out-number Inv-loop μ-loop
-element-copy-out-number c =
+element-copy-out-byte-index : tie.Need-element-copy-out-byte-index Inv-loop μ-loop
+element-copy-out-byte-index c =
     let start = c .before .before in
     omega (arith, start .pre .0 .wired .operations, start .pre .0 .wired .edges)
 
-number-requires : tie.Need-number-requires Inv-loop μ-loop
-number-requires c κs = search needs
+byte-index-requires : tie.Need-byte-index-requires Inv-loop μ-loop
+byte-index-requires c κs = search needs
 
 raise-item-requires : tie.Need-raise-item-requires Inv-loop μ-loop
 raise-item-requires c κs =
     let at-number = c .before .before in
     let at-loop = at-number .before .before .before in
     let start = at-loop .before in
-    let item = subst (Item (start .args .n) (start .args .e)) (sym (at-number .number .ensures .0)) (start .pre .1 .0 .0 .items (at-loop .loop .j) (omega arith)) in
+    let item = subst (Item (start .args .n) (start .args .e)) (sym (at-number .byte-index .ensures .0)) (start .pre .1 .0 .0 .items (at-loop .loop .j) (omega arith)) in
     let room = room-swept (weighted-short (start .pre .0)) (start .pre .1 .0 .1 .down) (start .pre .1 .1) (at-loop .loop .inv .1) in
     (start .pre .0, ((item, start .pre .1 .0 .1), room-more (omega (arith, start .pre .0 .wired .operations, start .pre .0 .wired .edges, at-loop .loop .inv .0)) room))
 
@@ -62,7 +62,7 @@ loop-again c =
     let at-number = c .before .before .before in
     let at-loop = at-number .before .before .before in
     let start = at-loop .before in
-    let tried = rw (at-number .number .ensures .0) at (c .raise-item .ensures) in
+    let tried = rw (at-number .byte-index .ensures .0) at (c .raise-item .ensures) in
     let next = swepts-then (among-last (start .args .n) (at-loop .loop .j) (now (start .args .ord))) (at-loop .loop .inv .1) tried in
     (omega arith, swepts-to (λ p h. h) (omega arith) next)
 
@@ -83,8 +83,8 @@ sweep-spec =
     μ-loop
     loop-holds
     add-loop
-    element-copy-out-number
-    number-requires
+    element-copy-out-byte-index
+    byte-index-requires
     raise-item-requires
     add-j
     loop-less

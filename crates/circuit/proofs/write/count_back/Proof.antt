@@ -17,37 +17,37 @@ abbrev μ-loop : tie.MeasureT-loop
 loop-holds : tie.Need-loop-holds Inv-loop μ-loop
 loop-holds c = (climb-start (now (c .args .via)) (c .pre .1 .1), omega arith)
 
-mul-index : tie.Need-mul-index Inv-loop μ-loop
-mul-index c =
+mul-word-index : tie.Need-mul-word-index Inv-loop μ-loop
+mul-word-index c =
     let at-loop = c .before in
     let start = at-loop .before in
     omega (arith, climb-in (start .pre .0) (start .pre .1 .0 .0) (at-loop .loop .inv .0), start .pre .0 .few)
 
-element-copy-out-index : tie.Need-element-copy-out-index Inv-loop μ-loop
-element-copy-out-index c =
+element-copy-out-word-index : tie.Need-element-copy-out-word-index Inv-loop μ-loop
+element-copy-out-word-index c =
     let at-loop = c .before in
     let start = at-loop .before in
     omega (arith, climb-in (start .pre .0) (start .pre .1 .0 .0) (at-loop .loop .inv .0), start .pre .0 .few)
 
-index-requires : tie.Need-index-requires Inv-loop μ-loop
-index-requires c κs = tt
+word-index-requires : tie.Need-word-index-requires Inv-loop μ-loop
+word-index-requires c κs = tt
 
 sub-q : tie.Need-sub-q Inv-loop μ-loop
 sub-q c =
     let start = c .before .before .before .before in
     let turn = c .before .before .before in
     let loop-test = c .before .before .loop-test in
-    climb-place (start .pre .0) (start .pre .1 .0 .0) (turn .loop .inv .0) (loop-test .taken) (c .index .ensures .0) .0
+    climb-place (start .pre .0) (start .pre .1 .0 .0) (turn .loop .inv .0) (loop-test .taken) (c .word-index .ensures .0) .0
 
-element-copy-out-number : tie.Need-element-copy-out-number Inv-loop μ-loop
-element-copy-out-number c =
+element-copy-out-byte-index : tie.Need-element-copy-out-byte-index Inv-loop μ-loop
+element-copy-out-byte-index c =
     let start = c .before .before .before .before in
     let turn = c .before .before .before in
     let loop-test = c .before .before .loop-test in
-    omega (arith, climb-place (start .pre .0) (start .pre .1 .0 .0) (turn .loop .inv .0) (loop-test .taken) (c .index .ensures .0) .1, start .pre .0 .many)
+    omega (arith, climb-place (start .pre .0) (start .pre .1 .0 .0) (turn .loop .inv .0) (loop-test .taken) (c .word-index .ensures .0) .1, start .pre .0 .many)
 
-number-requires : tie.Need-number-requires Inv-loop μ-loop
-number-requires c κs = tt
+byte-index-requires : tie.Need-byte-index-requires Inv-loop μ-loop
+byte-index-requires c κs = tt
 
 add-k : tie.Need-add-k Inv-loop μ-loop
 add-k c =
@@ -67,8 +67,8 @@ loop-again : tie.Need-loop-again Inv-loop μ-loop
 loop-again c =
     let turn = c .before .before .before .before .before in
     let loop-test = c .before .before .before .before .loop-test in
-    let index = c .before .before .index in
-    (climb-on (turn .loop .inv .0) (loop-test .taken) (index .ensures .0) (c .number .ensures .0), omega (arith, turn .loop .inv .1))
+    let index = c .before .before .word-index in
+    (climb-on (turn .loop .inv .0) (loop-test .taken) (index .ensures .0) (c .byte-index .ensures .0), omega (arith, turn .loop .inv .1))
 
 returns : tie.Need-returns Inv-loop μ-loop
 returns c =
@@ -84,12 +84,12 @@ count-back-spec =
     Inv-loop
     μ-loop
     loop-holds
-    mul-index
-    element-copy-out-index
-    index-requires
+    mul-word-index
+    element-copy-out-word-index
+    word-index-requires
     sub-q
-    element-copy-out-number
-    number-requires
+    element-copy-out-byte-index
+    byte-index-requires
     add-k
     loop-less
     loop-again

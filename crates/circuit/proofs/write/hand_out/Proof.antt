@@ -13,51 +13,51 @@ Inv-loop nt np next src dst via p ring₀ goal root len x₀ k₀ ring x k = Fil
 abbrev μ-loop : tie.MeasureT-loop
 μ-loop nt np next src dst via p ring₀ goal root len x₀ k₀ ring x k = k
 
-element-copy-out-number : tie.Need-element-copy-out-number Inv-loop μ-loop
-element-copy-out-number c = omega (arith, c .before .pre .0 .many, c .before .pre .1 .0 .0)
+element-copy-out-byte-index : tie.Need-element-copy-out-byte-index Inv-loop μ-loop
+element-copy-out-byte-index c = omega (arith, c .before .pre .0 .many, c .before .pre .1 .0 .0)
 
-number-requires : tie.Need-number-requires Inv-loop μ-loop
-number-requires c κs = tt
+byte-index-requires : tie.Need-byte-index-requires Inv-loop μ-loop
+byte-index-requires c κs = tt
 
-element-copy-out-number-2 : tie.Need-element-copy-out-number-2 Inv-loop μ-loop
-element-copy-out-number-2 c =
+element-copy-out-byte-index-2 : tie.Need-element-copy-out-byte-index-2 Inv-loop μ-loop
+element-copy-out-byte-index-2 c =
     let start = c .before .before .before in
     omega (arith, start .pre .0 .many, start .pre .1 .0 .0)
 
-number-requires-2 : tie.Need-number-requires-2 Inv-loop μ-loop
-number-requires-2 c κs = tt
+byte-index-requires-2 : tie.Need-byte-index-requires-2 Inv-loop μ-loop
+byte-index-requires-2 c κs = tt
 
 count-back-requires : tie.Need-count-back-requires Inv-loop μ-loop
 count-back-requires c κs =
     let start = c .before .before .before .before .before in
-    let number = c .before .before .number in
-    let root = root-in (start .pre .0) (start .pre .1 .0 .0) (start .pre .1 .0 .1) (c .number2 .ensures .0) in
-    let apart = root-apart (start .pre .0) (start .pre .1 .0 .0) (start .pre .1 .0 .1) (c .number2 .ensures .0) (number .ensures .0) in
+    let number = c .before .before .byte-index in
+    let root = root-in (start .pre .0) (start .pre .1 .0 .0) (start .pre .1 .0 .1) (c .byte-index2 .ensures .0) in
+    let apart = root-apart (start .pre .0) (start .pre .1 .0 .0) (start .pre .1 .0 .1) (c .byte-index2 .ensures .0) (number .ensures .0) in
     let a = start .args in
-    let noted = noted-to (a .nt) (a .np) (now (a .src)) (now (a .dst)) (now (a .via)) (a .p) (c .number2 .ensures .0) (number .ensures .0) (start .pre .1 .1) in
+    let noted = noted-to (a .nt) (a .np) (now (a .src)) (now (a .dst)) (now (a .via)) (a .p) (c .byte-index2 .ensures .0) (number .ensures .0) (start .pre .1 .1) in
     (start .pre .0, ((root, apart), noted))
 
 loop-holds : tie.Need-loop-holds Inv-loop μ-loop
 loop-holds c = fill-start (c .count-back .ensures)
 
-mul-index : tie.Need-mul-index Inv-loop μ-loop
-mul-index c =
+mul-word-index : tie.Need-mul-word-index Inv-loop μ-loop
+mul-word-index c =
     let at-loop = c .before in
     let at-number2 = at-loop .before .before in
     let start = at-number2 .before .before .before .before .before in
-    let root = root-in (start .pre .0) (start .pre .1 .0 .0) (start .pre .1 .0 .1) (at-number2 .number2 .ensures .0) in
+    let root = root-in (start .pre .0) (start .pre .1 .0 .0) (start .pre .1 .0 .1) (at-number2 .byte-index2 .ensures .0) in
     omega (arith, climb-in (start .pre .0) root (at-loop .loop .inv .climb), start .pre .0 .few)
 
-element-copy-out-index : tie.Need-element-copy-out-index Inv-loop μ-loop
-element-copy-out-index c =
+element-copy-out-word-index : tie.Need-element-copy-out-word-index Inv-loop μ-loop
+element-copy-out-word-index c =
     let at-loop = c .before in
     let at-number2 = at-loop .before .before in
     let start = at-number2 .before .before .before .before .before in
-    let root = root-in (start .pre .0) (start .pre .1 .0 .0) (start .pre .1 .0 .1) (at-number2 .number2 .ensures .0) in
+    let root = root-in (start .pre .0) (start .pre .1 .0 .0) (start .pre .1 .0 .1) (at-number2 .byte-index2 .ensures .0) in
     omega (arith, climb-in (start .pre .0) root (at-loop .loop .inv .climb), start .pre .0 .few)
 
-index-requires : tie.Need-index-requires Inv-loop μ-loop
-index-requires c κs = tt
+word-index-requires : tie.Need-word-index-requires Inv-loop μ-loop
+word-index-requires c κs = tt
 
 sub-q : tie.Need-sub-q Inv-loop μ-loop
 sub-q c =
@@ -65,8 +65,8 @@ sub-q c =
     let at-loop = at-loop-test .before in
     let at-number2 = at-loop .before .before in
     let start = at-number2 .before .before .before .before .before in
-    let root = root-in (start .pre .0) (start .pre .1 .0 .0) (start .pre .1 .0 .1) (at-number2 .number2 .ensures .0) in
-    let place = climb-place (start .pre .0) root (at-loop .loop .inv .climb) (at-loop-test .loop-test .taken) (c .index .ensures .0) in
+    let root = root-in (start .pre .0) (start .pre .1 .0 .0) (start .pre .1 .0 .1) (at-number2 .byte-index2 .ensures .0) in
+    let place = climb-place (start .pre .0) root (at-loop .loop .inv .climb) (at-loop-test .loop-test .taken) (c .word-index .ensures .0) in
     place .0
 
 sub-k : tie.Need-sub-k Inv-loop μ-loop
@@ -75,7 +75,7 @@ sub-k c =
     let at-loop = at-loop-test .before in
     let at-number2 = at-loop .before .before in
     let start = at-number2 .before .before .before .before .before in
-    let root = root-in (start .pre .0) (start .pre .1 .0 .0) (start .pre .1 .0 .1) (at-number2 .number2 .ensures .0) in
+    let root = root-in (start .pre .0) (start .pre .1 .0 .0) (start .pre .1 .0 .1) (at-number2 .byte-index2 .ensures .0) in
     let room = fill-left (start .pre .0) root (at-loop .loop .inv) (start .pre .1 .0 .2) (at-loop-test .loop-test .taken) in
     omega (arith, room .0)
 
@@ -85,8 +85,8 @@ cast-ring c =
     let at-loop = at-loop-test .before in
     let at-number2 = at-loop .before .before in
     let start = at-number2 .before .before .before .before .before in
-    let root = root-in (start .pre .0) (start .pre .1 .0 .0) (start .pre .1 .0 .1) (at-number2 .number2 .ensures .0) in
-    let place = climb-place (start .pre .0) root (at-loop .loop .inv .climb) (at-loop-test .loop-test .taken) (c .index .ensures .0) in
+    let root = root-in (start .pre .0) (start .pre .1 .0 .0) (start .pre .1 .0 .1) (at-number2 .byte-index2 .ensures .0) in
+    let place = climb-place (start .pre .0) root (at-loop .loop .inv .climb) (at-loop-test .loop-test .taken) (c .word-index .ensures .0) in
     omega (arith, place .1, start .pre .0 .many)
 
 mul-ring : tie.Need-mul-ring Inv-loop μ-loop
@@ -95,7 +95,7 @@ mul-ring c =
     let at-loop = at-loop-test .before in
     let at-number2 = at-loop .before .before in
     let start = at-number2 .before .before .before .before .before in
-    let root = root-in (start .pre .0) (start .pre .1 .0 .0) (start .pre .1 .0 .1) (at-number2 .number2 .ensures .0) in
+    let root = root-in (start .pre .0) (start .pre .1 .0 .0) (start .pre .1 .0 .1) (at-number2 .byte-index2 .ensures .0) in
     let room = fill-left (start .pre .0) root (at-loop .loop .inv) (start .pre .1 .0 .2) (at-loop-test .loop-test .taken) in
     omega (arith, room .1, start .pre .0 .few)
 
@@ -105,22 +105,22 @@ slice-write-ring c =
     let at-loop = at-loop-test .before in
     let at-number2 = at-loop .before .before in
     let start = at-number2 .before .before .before .before .before in
-    let root = root-in (start .pre .0) (start .pre .1 .0 .0) (start .pre .1 .0 .1) (at-number2 .number2 .ensures .0) in
+    let root = root-in (start .pre .0) (start .pre .1 .0 .0) (start .pre .1 .0 .1) (at-number2 .byte-index2 .ensures .0) in
     let room = fill-left (start .pre .0) root (at-loop .loop .inv) (start .pre .1 .0 .2) (at-loop-test .loop-test .taken) in
     omega (arith, room .0, room .1, at-loop .loop .inv .long, start .pre .1 .0 .2)
 
-element-copy-out-number-3 : tie.Need-element-copy-out-number-3 Inv-loop μ-loop
-element-copy-out-number-3 c =
+element-copy-out-byte-index-3 : tie.Need-element-copy-out-byte-index-3 Inv-loop μ-loop
+element-copy-out-byte-index-3 c =
     let at-loop-test = c .before .before in
     let at-loop = at-loop-test .before in
     let at-number2 = at-loop .before .before in
     let start = at-number2 .before .before .before .before .before in
-    let root = root-in (start .pre .0) (start .pre .1 .0 .0) (start .pre .1 .0 .1) (at-number2 .number2 .ensures .0) in
-    let place = climb-place (start .pre .0) root (at-loop .loop .inv .climb) (at-loop-test .loop-test .taken) (c .index .ensures .0) in
+    let root = root-in (start .pre .0) (start .pre .1 .0 .0) (start .pre .1 .0 .1) (at-number2 .byte-index2 .ensures .0) in
+    let place = climb-place (start .pre .0) root (at-loop .loop .inv .climb) (at-loop-test .loop-test .taken) (c .word-index .ensures .0) in
     omega (arith, place .1, start .pre .0 .many)
 
-number-requires-3 : tie.Need-number-requires-3 Inv-loop μ-loop
-number-requires-3 c κs = tt
+byte-index-requires-3 : tie.Need-byte-index-requires-3 Inv-loop μ-loop
+byte-index-requires-3 c κs = tt
 
 loop-less : tie.Need-loop-less Inv-loop μ-loop
 loop-less c =
@@ -128,7 +128,7 @@ loop-less c =
     let at-loop = at-loop-test .before in
     let at-number2 = at-loop .before .before in
     let start = at-number2 .before .before .before .before .before in
-    let root = root-in (start .pre .0) (start .pre .1 .0 .0) (start .pre .1 .0 .1) (at-number2 .number2 .ensures .0) in
+    let root = root-in (start .pre .0) (start .pre .1 .0 .0) (start .pre .1 .0 .1) (at-number2 .byte-index2 .ensures .0) in
     let room = fill-left (start .pre .0) root (at-loop .loop .inv) (start .pre .1 .0 .2) (at-loop-test .loop-test .taken) in
     omega (arith, room .0)
 
@@ -139,8 +139,8 @@ loop-again c =
     let at-loop = at-loop-test .before in
     let at-number2 = at-loop .before .before in
     let start = at-number2 .before .before .before .before .before in
-    let root = root-in (start .pre .0) (start .pre .1 .0 .0) (start .pre .1 .0 .1) (at-number2 .number2 .ensures .0) in
-    fill-on (start .pre .0) root (at-loop .loop .inv) (start .pre .1 .0 .2) (at-loop-test .loop-test .taken) (at-index .index .ensures .0) (c .number3 .ensures .0)
+    let root = root-in (start .pre .0) (start .pre .1 .0 .0) (start .pre .1 .0 .1) (at-number2 .byte-index2 .ensures .0) in
+    fill-on (start .pre .0) root (at-loop .loop .inv) (start .pre .1 .0 .2) (at-loop-test .loop-test .taken) (at-index .word-index .ensures .0) (c .byte-index3 .ensures .0)
 
 cast-ring-2 : tie.Need-cast-ring-2 Inv-loop μ-loop
 cast-ring-2 c =
@@ -153,7 +153,7 @@ slice-write-ring-2 c =
     let at-loop = c .before in
     let at-number2 = at-loop .before .before in
     let start = at-number2 .before .before .before .before .before in
-    omega (arith, root-in (start .pre .0) (start .pre .1 .0 .0) (start .pre .1 .0 .1) (at-number2 .number2 .ensures .0), at-loop .loop .inv .long, start .pre .1 .0 .2)
+    omega (arith, root-in (start .pre .0) (start .pre .1 .0 .0) (start .pre .1 .0 .1) (at-number2 .byte-index2 .ensures .0), at-loop .loop .inv .long, start .pre .1 .0 .2)
 
 same-length : tie.Need-same-length Inv-loop μ-loop
 same-length c = simp length-set (c .before .loop .inv .long)
@@ -164,9 +164,9 @@ returns c =
     let at-number2 = at-loop .before .before in
     let at-number = at-number2 .before .before in
     let start = at-number .before .before .before in
-    let root = root-in (start .pre .0) (start .pre .1 .0 .0) (start .pre .1 .0 .1) (at-number2 .number2 .ensures .0) in
-    let apart = root-apart (start .pre .0) (start .pre .1 .0 .0) (start .pre .1 .0 .1) (at-number2 .number2 .ensures .0) (at-number .number .ensures .0) in
-    fill-end (start .pre .0) root (at-loop .loop .inv) (start .pre .1 .0 .2) (at-number2 .number2 .ensures .0) (at-number .number .ensures .0) apart (c .loop-test .left)
+    let root = root-in (start .pre .0) (start .pre .1 .0 .0) (start .pre .1 .0 .1) (at-number2 .byte-index2 .ensures .0) in
+    let apart = root-apart (start .pre .0) (start .pre .1 .0 .0) (start .pre .1 .0 .1) (at-number2 .byte-index2 .ensures .0) (at-number .byte-index .ensures .0) in
+    fill-end (start .pre .0) root (at-loop .loop .inv) (start .pre .1 .0 .2) (at-number2 .byte-index2 .ensures .0) (at-number .byte-index .ensures .0) apart (c .loop-test .left)
 
 pub hand-out-spec : {M : Type 1} → statement M
 hand-out-spec =
@@ -174,22 +174,22 @@ hand-out-spec =
     (tie.spec
     Inv-loop
     μ-loop
-    element-copy-out-number
-    number-requires
-    element-copy-out-number-2
-    number-requires-2
+    element-copy-out-byte-index
+    byte-index-requires
+    element-copy-out-byte-index-2
+    byte-index-requires-2
     count-back-requires
     loop-holds
-    mul-index
-    element-copy-out-index
-    index-requires
+    mul-word-index
+    element-copy-out-word-index
+    word-index-requires
     sub-q
     sub-k
     cast-ring
     mul-ring
     slice-write-ring
-    element-copy-out-number-3
-    number-requires-3
+    element-copy-out-byte-index-3
+    byte-index-requires-3
     loop-less
     loop-again
     cast-ring-2

@@ -6,17 +6,17 @@ use Rattle.dead_hints.proofs.lists.follow.Tie as tie
 returns : tie.Need-returns
 returns c = search needs
 
-sub-wide : tie.Need-sub-wide
-sub-wide c = search needs
+sub-word-index : tie.Need-sub-word-index
+sub-word-index c = search needs
 
-mul-wide : tie.Need-mul-wide
-mul-wide c = search needs
+mul-word-index : tie.Need-mul-word-index
+mul-word-index c = search needs
 
-element-copy-out-wide : tie.Need-element-copy-out-wide
-element-copy-out-wide c = search needs
+element-copy-out-word-index : tie.Need-element-copy-out-word-index
+element-copy-out-word-index c = search needs
 
-wide-requires : tie.Need-wide-requires
-wide-requires c κs = search needs
+word-index-requires : tie.Need-word-index-requires
+word-index-requires c κs = search needs
 
 returns-2 : tie.Need-returns-2
 returns-2 c = search needs
@@ -27,4 +27,4 @@ returns-3 c = search needs
 pub follow-spec : {M : Type 1} → statement M
 follow-spec =
     tie.close
-    (tie.spec returns sub-wide mul-wide element-copy-out-wide wide-requires returns-2 returns-3)
+    (tie.spec returns sub-word-index mul-word-index element-copy-out-word-index word-index-requires returns-2 returns-3)

@@ -17,11 +17,11 @@ seed-requires c κs = search needs
 loop-holds : tie.Need-loop-holds Inv-loop μ-loop
 loop-holds c = omega arith
 
-array-read-index : tie.Need-array-read-index Inv-loop μ-loop
-array-read-index c = omega arith
+array-read-byte-index : tie.Need-array-read-byte-index Inv-loop μ-loop
+array-read-byte-index c = omega arith
 
-index-requires : tie.Need-index-requires Inv-loop μ-loop
-index-requires c κs = search needs
+byte-index-requires : tie.Need-byte-index-requires Inv-loop μ-loop
+byte-index-requires c κs = search needs
 
 take-requires : tie.Need-take-requires Inv-loop μ-loop
 take-requires c κs = search needs
@@ -46,8 +46,8 @@ strike-out-spec =
     μ-loop
     seed-requires
     loop-holds
-    array-read-index
-    index-requires
+    array-read-byte-index
+    byte-index-requires
     take-requires
     add-at
     loop-less

@@ -17,11 +17,11 @@ push-requires c κs = omega arith
 loop-holds : tie.Need-loop-holds Inv-loop μ-loop
 loop-holds c = omega arith
 
-array-read-index : tie.Need-array-read-index Inv-loop μ-loop
-array-read-index c = omega arith
+array-read-byte-index : tie.Need-array-read-byte-index Inv-loop μ-loop
+array-read-byte-index c = omega arith
 
-index-requires : tie.Need-index-requires Inv-loop μ-loop
-index-requires c κs = search needs
+byte-index-requires : tie.Need-byte-index-requires Inv-loop μ-loop
+byte-index-requires c κs = search needs
 
 spread-from-requires : tie.Need-spread-from-requires Inv-loop μ-loop
 spread-from-requires c κs = omega arith
@@ -46,8 +46,8 @@ reach-spec =
     μ-loop
     push-requires
     loop-holds
-    array-read-index
-    index-requires
+    array-read-byte-index
+    byte-index-requires
     spread-from-requires
     add-done
     loop-less

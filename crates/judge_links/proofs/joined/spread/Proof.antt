@@ -7,25 +7,25 @@ use Rattle.judge_links.proofs.joined.spread.Statement.{statement}
 use Rattle.judge_links.proofs.joined.spread.Tie as tie
 
 -- The two ends, as they are read, are nodes.
-abbrev start : tie.After-wide2 → tie.Start
+abbrev start : tie.After-byte-index2 → tie.Start
 start c = c .before .before .before .before
 
-node : (c : tie.After-wide2) → (c .before .before .wide .result < 42) × (c .wide2 .result < 42)
+node : (c : tie.After-byte-index2) → (c .before .before .byte-index .result < 42) × (c .byte-index2 .result < 42)
 node c =
     let s = start c in
-    (omega (arith, c .before .before .wide .ensures, s .pre .0 .leaves (s .args .k) (s .pre .1 .1)), omega (arith, c .wide2 .ensures, s .pre .0 .enters (s .args .k) (s .pre .1 .1)))
+    (omega (arith, c .before .before .byte-index .ensures .0, s .pre .0 .leaves (s .args .k) (s .pre .1 .1)), omega (arith, c .byte-index2 .ensures .0, s .pre .0 .enters (s .args .k) (s .pre .1 .1)))
 
-element-copy-out-wide : tie.Need-element-copy-out-wide
-element-copy-out-wide c = search needs
+element-copy-out-byte-index : tie.Need-element-copy-out-byte-index
+element-copy-out-byte-index c = search needs
 
-wide-requires : tie.Need-wide-requires
-wide-requires c κs = search needs
+byte-index-requires : tie.Need-byte-index-requires
+byte-index-requires c κs = search needs
 
-element-copy-out-wide-2 : tie.Need-element-copy-out-wide-2
-element-copy-out-wide-2 c = search needs
+element-copy-out-byte-index-2 : tie.Need-element-copy-out-byte-index-2
+element-copy-out-byte-index-2 c = search needs
 
-wide-requires-2 : tie.Need-wide-requires-2
-wide-requires-2 c κs = search needs
+byte-index-requires-2 : tie.Need-byte-index-requires-2
+byte-index-requires-2 c κs = search needs
 
 element-copy-out-if1 : tie.Need-element-copy-out-if1
 element-copy-out-if1 c = node c .0
@@ -37,7 +37,7 @@ returns : tie.Need-returns
 returns c =
     let d = c .before .before .before in
     let s = start d in
-    spread-still {a = d .before .before .wide .result} {b = d .wide2 .result} (s .args .changed) (s .pre .1 .0) (omega (arith, c .if1 .taken)) (d .before .before .wide .ensures) (d .wide2 .ensures)
+    spread-still {a = d .before .before .byte-index .result} {b = d .byte-index2 .result} (s .args .changed) (s .pre .1 .0) (omega (arith, c .if1 .taken)) (d .before .before .byte-index .ensures .0) (d .byte-index2 .ensures .0)
 
 element-write-seen : tie.Need-element-write-seen
 element-write-seen c = node (c .before .before .before) .0
@@ -51,16 +51,16 @@ returns-2 c =
     let s = start d in
     let inside = s .pre .1 .1 in
     spread-more (s .args .changed) (s .pre .1 .0) inside (c .if1 .left)
-    (d .before .before .wide .ensures) (d .wide2 .ensures) (s .pre .0 .leaves _ inside) (s .pre .0 .enters _ inside)
+    (d .before .before .byte-index .ensures .0) (d .byte-index2 .ensures .0) (s .pre .0 .leaves _ inside) (s .pre .0 .enters _ inside)
 
 pub spread-spec : {M : Type 1} → statement M
 spread-spec =
     tie.close
     (tie.spec
-    element-copy-out-wide
-    wide-requires
-    element-copy-out-wide-2
-    wide-requires-2
+    element-copy-out-byte-index
+    byte-index-requires
+    element-copy-out-byte-index-2
+    byte-index-requires-2
     element-copy-out-if1
     element-copy-out-if1-2
     returns

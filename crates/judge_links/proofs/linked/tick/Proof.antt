@@ -15,21 +15,21 @@ abbrev μ-loop : tie.MeasureT-loop
 μ-loop e ends seen₀ k₀ seen k = e - k
 
 -- The turn of the loop that reads an end.
-abbrev at-loop : tie.After-wide Inv-loop μ-loop → tie.At-loop Inv-loop μ-loop
+abbrev at-loop : tie.After-byte-index Inv-loop μ-loop → tie.At-loop Inv-loop μ-loop
 at-loop c = c .before .before .before
 
 -- The end of the edge at hand is a node.
-node : (c : tie.After-wide Inv-loop μ-loop) → c .wide .result < 42
-node c = let d = at-loop c in omega (arith, c .wide .ensures, d .before .pre .1 (d .loop .k) (omega arith))
+node : (c : tie.After-byte-index Inv-loop μ-loop) → c .byte-index .result < 42
+node c = let d = at-loop c in omega (arith, c .byte-index .ensures .0, d .before .pre .1 (d .loop .k) (omega arith))
 
 loop-holds : tie.Need-loop-holds Inv-loop μ-loop
 loop-holds c = (omega arith, refl, ticks-none _)
 
-element-copy-out-wide : tie.Need-element-copy-out-wide Inv-loop μ-loop
-element-copy-out-wide c = omega arith
+element-copy-out-byte-index : tie.Need-element-copy-out-byte-index Inv-loop μ-loop
+element-copy-out-byte-index c = omega arith
 
-wide-requires : tie.Need-wide-requires Inv-loop μ-loop
-wide-requires c κs = tt
+byte-index-requires : tie.Need-byte-index-requires Inv-loop μ-loop
+byte-index-requires c κs = tt
 
 array-write-seen : tie.Need-array-write-seen Inv-loop μ-loop
 array-write-seen c = node c
@@ -43,7 +43,7 @@ loop-less c = omega arith
 loop-again : tie.Need-loop-again Inv-loop μ-loop
 loop-again c =
     let inv = at-loop c .loop .inv in
-    (omega arith, rw length-set (inv .1), ticks-more _ (c .wide .ensures) (rw (inv .1) (node c)) (inv .2))
+    (omega arith, rw length-set (inv .1), ticks-more _ (c .byte-index .ensures .0) (rw (inv .1) (node c)) (inv .2))
 
 returns : tie.Need-returns Inv-loop μ-loop
 returns c = ticks-to (omega arith) (c .before .loop .inv .2)
@@ -55,8 +55,8 @@ tick-spec =
     Inv-loop
     μ-loop
     loop-holds
-    element-copy-out-wide
-    wide-requires
+    element-copy-out-byte-index
+    byte-index-requires
     array-write-seen
     add-k
     loop-less

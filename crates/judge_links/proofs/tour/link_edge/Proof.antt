@@ -5,26 +5,26 @@ use borrow.Author.Needs.{needs}
 use Rattle.judge_links.proofs.tour.link_edge.Statement.{statement}
 use Rattle.judge_links.proofs.tour.link_edge.Tie as tie
 
-abbrev start : tie.After-wide2 → tie.Start
+abbrev start : tie.After-byte-index2 → tie.Start
 start c = c .before .before .before .before
 
 -- Both ends are nodes, and there is room for their entries.
-ends : (c : tie.After-wide2) → (c .before .before .wide .result < 42) × (c .wide2 .result < 42) × (2 * start c .args .k + 1 < 256)
+ends : (c : tie.After-byte-index2) → (c .before .before .byte-index .result < 42) × (c .byte-index2 .result < 42) × (2 * start c .args .k + 1 < 256)
 ends c =
     let s = start c in
-    (omega (arith, c .before .before .wide .ensures, s .pre .0 .leaves _ (s .pre .1)), omega (arith, c .wide2 .ensures, s .pre .0 .enters _ (s .pre .1)), omega (arith, s .pre .0 .edges))
+    (omega (arith, c .before .before .byte-index .ensures .0, s .pre .0 .leaves _ (s .pre .1)), omega (arith, c .byte-index2 .ensures .0, s .pre .0 .enters _ (s .pre .1)), omega (arith, s .pre .0 .edges))
 
-element-copy-out-wide : tie.Need-element-copy-out-wide
-element-copy-out-wide c = search needs
+element-copy-out-byte-index : tie.Need-element-copy-out-byte-index
+element-copy-out-byte-index c = search needs
 
-wide-requires : tie.Need-wide-requires
-wide-requires c κs = search needs
+byte-index-requires : tie.Need-byte-index-requires
+byte-index-requires c κs = search needs
 
-element-copy-out-wide-2 : tie.Need-element-copy-out-wide-2
-element-copy-out-wide-2 c = search needs
+element-copy-out-byte-index-2 : tie.Need-element-copy-out-byte-index-2
+element-copy-out-byte-index-2 c = search needs
 
-wide-requires-2 : tie.Need-wide-requires-2
-wide-requires-2 c κs = search needs
+byte-index-requires-2 : tie.Need-byte-index-requires-2
+byte-index-requires-2 c κs = search needs
 
 mul-link : tie.Need-mul-link
 mul-link c = search needs
@@ -51,10 +51,10 @@ pub link-edge-spec : {M : Type 1} → statement M
 link-edge-spec =
     tie.close
     (tie.spec
-    element-copy-out-wide
-    wide-requires
-    element-copy-out-wide-2
-    wide-requires-2
+    element-copy-out-byte-index
+    byte-index-requires
+    element-copy-out-byte-index-2
+    byte-index-requires-2
     mul-link
     add-link
     link-requires

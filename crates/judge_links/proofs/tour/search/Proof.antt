@@ -17,11 +17,11 @@ array-write-met c = omega arith
 loop-holds : tie.Need-loop-holds Inv-loop μ-loop
 loop-holds c = omega arith
 
-array-read-wide : tie.Need-array-read-wide Inv-loop μ-loop
-array-read-wide c = omega arith
+array-read-byte-index : tie.Need-array-read-byte-index Inv-loop μ-loop
+array-read-byte-index c = omega arith
 
-wide-requires : tie.Need-wide-requires Inv-loop μ-loop
-wide-requires c κs = search needs
+byte-index-requires : tie.Need-byte-index-requires Inv-loop μ-loop
+byte-index-requires c κs = search needs
 
 visit-node-requires : tie.Need-visit-node-requires Inv-loop μ-loop
 visit-node-requires c κs = search needs
@@ -46,8 +46,8 @@ search-spec =
     μ-loop
     array-write-met
     loop-holds
-    array-read-wide
-    wide-requires
+    array-read-byte-index
+    byte-index-requires
     visit-node-requires
     add-done
     loop-less

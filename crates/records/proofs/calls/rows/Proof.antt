@@ -13,29 +13,29 @@ abbrev μ-loop : tie.MeasureT-loop
 loop-holds : tie.Need-loop-holds Inv-loop μ-loop
 loop-holds c = search needs
 
-element-copy-out-wide : tie.Need-element-copy-out-wide Inv-loop μ-loop
-element-copy-out-wide c = search needs
+element-copy-out-byte-long : tie.Need-element-copy-out-byte-long Inv-loop μ-loop
+element-copy-out-byte-long c = search needs
 
-wide-requires : tie.Need-wide-requires Inv-loop μ-loop
-wide-requires c κs = search needs
+byte-long-requires : tie.Need-byte-long-requires Inv-loop μ-loop
+byte-long-requires c κs = search needs
 
 number-requires : tie.Need-number-requires Inv-loop μ-loop
 number-requires c κs = search needs
 
-element-copy-out-wide-2 : tie.Need-element-copy-out-wide-2 Inv-loop μ-loop
-element-copy-out-wide-2 c = search needs
+element-copy-out-byte-long-2 : tie.Need-element-copy-out-byte-long-2 Inv-loop μ-loop
+element-copy-out-byte-long-2 c = search needs
 
-wide-requires-2 : tie.Need-wide-requires-2 Inv-loop μ-loop
-wide-requires-2 c κs = search needs
+byte-long-requires-2 : tie.Need-byte-long-requires-2 Inv-loop μ-loop
+byte-long-requires-2 c κs = search needs
 
 number-requires-2 : tie.Need-number-requires-2 Inv-loop μ-loop
 number-requires-2 c κs = search needs
 
-element-copy-out-wide-3 : tie.Need-element-copy-out-wide-3 Inv-loop μ-loop
-element-copy-out-wide-3 c = search needs
+element-copy-out-byte-long-3 : tie.Need-element-copy-out-byte-long-3 Inv-loop μ-loop
+element-copy-out-byte-long-3 c = search needs
 
-wide-requires-3 : tie.Need-wide-requires-3 Inv-loop μ-loop
-wide-requires-3 c κs = search needs
+byte-long-requires-3 : tie.Need-byte-long-requires-3 Inv-loop μ-loop
+byte-long-requires-3 c κs = search needs
 
 number-requires-3 : tie.Need-number-requires-3 Inv-loop μ-loop
 number-requires-3 c κs = search needs
@@ -59,14 +59,14 @@ rows-spec =
     Inv-loop
     μ-loop
     loop-holds
-    element-copy-out-wide
-    wide-requires
+    element-copy-out-byte-long
+    byte-long-requires
     number-requires
-    element-copy-out-wide-2
-    wide-requires-2
+    element-copy-out-byte-long-2
+    byte-long-requires-2
     number-requires-2
-    element-copy-out-wide-3
-    wide-requires-3
+    element-copy-out-byte-long-3
+    byte-long-requires-3
     number-requires-3
     add-e
     loop-less

@@ -13,14 +13,14 @@ abbrev μ-loop : tie.MeasureT-loop
 loop-holds : tie.Need-loop-holds Inv-loop μ-loop
 loop-holds c = search needs
 
-mul-long : tie.Need-mul-long Inv-loop μ-loop
-mul-long c = search needs
+mul-quad-long : tie.Need-mul-quad-long Inv-loop μ-loop
+mul-quad-long c = search needs
 
-element-copy-out-long : tie.Need-element-copy-out-long Inv-loop μ-loop
-element-copy-out-long c = search needs
+element-copy-out-quad-long : tie.Need-element-copy-out-quad-long Inv-loop μ-loop
+element-copy-out-quad-long c = search needs
 
-long-requires : tie.Need-long-requires Inv-loop μ-loop
-long-requires c κs = search needs
+quad-long-requires : tie.Need-quad-long-requires Inv-loop μ-loop
+quad-long-requires c κs = search needs
 
 number-requires : tie.Need-number-requires Inv-loop μ-loop
 number-requires c κs = search needs
@@ -44,9 +44,9 @@ times-spec =
     Inv-loop
     μ-loop
     loop-holds
-    mul-long
-    element-copy-out-long
-    long-requires
+    mul-quad-long
+    element-copy-out-quad-long
+    quad-long-requires
     number-requires
     add-i
     loop-less

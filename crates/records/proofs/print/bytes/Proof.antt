@@ -24,11 +24,11 @@ loop-holds c = search needs
 slice-aggregate-put : tie.Need-slice-aggregate-put Inv-loop μ-loop
 slice-aggregate-put c = search needs
 
-shared-slice-read-wide : tie.Need-shared-slice-read-wide Inv-loop μ-loop
-shared-slice-read-wide c = search needs
+shared-slice-read-byte-word : tie.Need-shared-slice-read-byte-word Inv-loop μ-loop
+shared-slice-read-byte-word c = search needs
 
-wide-requires : tie.Need-wide-requires Inv-loop μ-loop
-wide-requires c κs = search needs
+byte-word-requires : tie.Need-byte-word-requires Inv-loop μ-loop
+byte-word-requires c κs = search needs
 
 put-requires : tie.Need-put-requires Inv-loop μ-loop
 put-requires c κs = search needs
@@ -67,8 +67,8 @@ bytes-spec =
     word-requires
     loop-holds
     slice-aggregate-put
-    shared-slice-read-wide
-    wide-requires
+    shared-slice-read-byte-word
+    byte-word-requires
     put-requires
     add-i
     loop-less

@@ -32,20 +32,20 @@ add-loop c =
     let start = c .before in
     omega (arith, start .pre .0 .operations)
 
-mul-index : tie.Need-mul-index Inv-loop μ-loop
-mul-index c =
+mul-word-index : tie.Need-mul-word-index Inv-loop μ-loop
+mul-word-index c =
     let at-loop = c .before in
     let start = at-loop .before in
     omega (arith, start .pre .0 .operations, at-loop .loop .inv .1, back-in (start .pre .1 .0) (wired-proper (start .pre .0)) (at-loop .loop .k) (start .args .v) (start .pre .1 .1))
 
-element-copy-out-index : tie.Need-element-copy-out-index Inv-loop μ-loop
-element-copy-out-index c =
+element-copy-out-word-index : tie.Need-element-copy-out-word-index Inv-loop μ-loop
+element-copy-out-word-index c =
     let at-loop = c .before in
     let start = at-loop .before in
     omega (arith, start .pre .0 .operations, at-loop .loop .inv .1, back-in (start .pre .1 .0) (wired-proper (start .pre .0)) (at-loop .loop .k) (start .args .v) (start .pre .1 .1))
 
-index-requires : tie.Need-index-requires Inv-loop μ-loop
-index-requires c κs = tt
+word-index-requires : tie.Need-word-index-requires Inv-loop μ-loop
+word-index-requires c κs = tt
 
 returns : tie.Need-returns Inv-loop μ-loop
 returns c =
@@ -54,7 +54,7 @@ returns c =
     let start = at-loop .before in
     let g = netOf (wires (start .args .n) (start .args .e) (now (start .args .from)) (now (start .args .to))) in
     let notes = at (now (start .args .pred)) in
-    let none = sym (at-index .index .ensures .0) ∙ c .if1 .taken in
+    let none = sym (at-index .word-index .ensures .0) ∙ c .if1 .taken in
     back-stays g notes (at-loop .loop .k) (3 * start .args .n + 2) (start .args .v) (at-loop .loop .w) (at-loop .loop .inv .1) none (at-loop .loop .inv .0)
 
 sub-place-src : tie.Need-sub-place-src Inv-loop μ-loop
@@ -65,7 +65,7 @@ place-src-requires c κs =
     let at-index = c .before in
     let at-loop = at-index .before .before .before in
     let start = at-loop .before in
-    (start .pre .0, start .pre .1 .0 .inside (at-loop .loop .w) (at-index .index .result - 1) (omega (arith, at-index .index .ensures .0)))
+    (start .pre .0, start .pre .1 .0 .inside (at-loop .loop .w) (at-index .word-index .result - 1) (omega (arith, at-index .word-index .ensures .0)))
 
 add-k : tie.Need-add-k Inv-loop μ-loop
 add-k c =
@@ -84,7 +84,7 @@ loop-again c =
     let g = netOf (wires (start .args .n) (start .args .e) (now (start .args .from)) (now (start .args .to))) in
     let notes = at (now (start .args .pred)) in
     let w = at-loop .loop .w in
-    let noted = behind-noted g w (notes w) (at-index .index .result - 1) (omega (arith, at-index .index .ensures .0)) in
+    let noted = behind-noted g w (notes w) (at-index .word-index .result - 1) (omega (arith, at-index .word-index .ensures .0)) in
     (omega arith, back-step g notes (at-loop .loop .k) (start .args .v) w _ (at-loop .loop .inv .1) (c .place-src .ensures .is ∙ noted))
 
 returns-2 : tie.Need-returns-2 Inv-loop μ-loop
@@ -104,9 +104,9 @@ follow-spec =
     loop-holds
     mul-loop
     add-loop
-    mul-index
-    element-copy-out-index
-    index-requires
+    mul-word-index
+    element-copy-out-word-index
+    word-index-requires
     returns
     sub-place-src
     place-src-requires

@@ -23,61 +23,61 @@ abbrev μ-loop : tie.MeasureT-loop
 loop-holds : tie.Need-loop-holds Inv-loop μ-loop
 loop-holds c = going-none
 
-mul-index : tie.Need-mul-index Inv-loop μ-loop
-mul-index c =
+mul-word-index : tie.Need-mul-word-index Inv-loop μ-loop
+mul-word-index c =
     let start = c .before in
     omega (arith, going-in (start .pre .1) (c .loop .inv) (weighted-proper (start .pre .0)), start .pre .0 .wired .operations)
 
-element-copy-out-index : tie.Need-element-copy-out-index Inv-loop μ-loop
-element-copy-out-index c =
+element-copy-out-word-index : tie.Need-element-copy-out-word-index Inv-loop μ-loop
+element-copy-out-word-index c =
     let start = c .before in
     omega (arith, going-in (start .pre .1) (c .loop .inv) (weighted-proper (start .pre .0)), start .pre .0 .wired .operations)
 
-index-requires : tie.Need-index-requires Inv-loop μ-loop
-index-requires c κs = search needs
+word-index-requires : tie.Need-word-index-requires Inv-loop μ-loop
+word-index-requires c κs = search needs
 
 sub-p : tie.Need-sub-p Inv-loop μ-loop
 sub-p c =
     let at-loop = c .before .before in
     let start = at-loop .before in
-    going-pos (start .pre .1) (at-loop .loop .inv) (c .index .ensures .0)
+    going-pos (start .pre .1) (at-loop .loop .inv) (c .word-index .ensures .0)
 
 place-src-requires : tie.Need-place-src-requires Inv-loop μ-loop
 place-src-requires c κs =
     let at-loop = c .before .before in
     let start = at-loop .before in
-    (start .pre .0 .wired, going-inside (start .pre .1) (at-loop .loop .inv) (c .index .ensures .0))
+    (start .pre .0 .wired, going-inside (start .pre .1) (at-loop .loop .inv) (c .word-index .ensures .0))
 
-mul-wide : tie.Need-mul-wide Inv-loop μ-loop
-mul-wide c =
+mul-quad-long : tie.Need-mul-quad-long Inv-loop μ-loop
+mul-quad-long c =
     let start = c .before .before .before .before in
     omega (arith, c .place-src .ensures .within, start .pre .0 .wired .operations)
 
-element-copy-out-wide : tie.Need-element-copy-out-wide Inv-loop μ-loop
-element-copy-out-wide c =
+element-copy-out-quad-long : tie.Need-element-copy-out-quad-long Inv-loop μ-loop
+element-copy-out-quad-long c =
     let start = c .before .before .before .before in
     omega (arith, c .place-src .ensures .within, start .pre .0 .wired .operations)
 
-wide-requires : tie.Need-wide-requires Inv-loop μ-loop
-wide-requires c κs = search needs
+quad-long-requires : tie.Need-quad-long-requires Inv-loop μ-loop
+quad-long-requires c κs = search needs
 
 add-time : tie.Need-add-time Inv-loop μ-loop
 add-time c =
     let at-loop = c .before .before .before .before .before in
     let start = at-loop .before in
     let so-far = way-lasts longestTime (weighted-short (start .pre .0)) (start .pre .0 .few) (at-loop .loop .inv .way) in
-    omega (arith, start .pre .0 .wired .operations, c .wide .ensures .1, going-few (start .pre .1) (at-loop .loop .inv), so-far)
+    omega (arith, start .pre .0 .wired .operations, c .quad-long .ensures .1, going-few (start .pre .1) (at-loop .loop .inv), so-far)
 
-element-copy-out-count : tie.Need-element-copy-out-count Inv-loop μ-loop
-element-copy-out-count c =
+element-copy-out-byte-long : tie.Need-element-copy-out-byte-long Inv-loop μ-loop
+element-copy-out-byte-long c =
     let at-index = c .before .before .before in
     let at-loop = at-index .before .before in
     let start = at-loop .before in
-    let inside = going-inside (start .pre .1) (at-loop .loop .inv) (at-index .index .ensures .0) in
+    let inside = going-inside (start .pre .1) (at-loop .loop .inv) (at-index .word-index .ensures .0) in
     omega (arith, inside, start .pre .0 .wired .operations, start .pre .0 .wired .edges)
 
-count-requires : tie.Need-count-requires Inv-loop μ-loop
-count-requires c κs = search needs
+byte-long-requires : tie.Need-byte-long-requires Inv-loop μ-loop
+byte-long-requires c κs = search needs
 
 add-tokens : tie.Need-add-tokens Inv-loop μ-loop
 add-tokens c =
@@ -85,7 +85,7 @@ add-tokens c =
     let at-loop = at-index .before .before in
     let start = at-loop .before in
     let so-far = way-holds longestTime (weighted-short (start .pre .0)) (start .pre .0 .few) (at-loop .loop .inv .way) in
-    omega (arith, start .pre .0 .wired .operations, c .count .ensures .1, going-few (start .pre .1) (at-loop .loop .inv), so-far)
+    omega (arith, start .pre .0 .wired .operations, c .byte-long .ensures .1, going-few (start .pre .1) (at-loop .loop .inv), so-far)
 
 add-k : tie.Need-add-k Inv-loop μ-loop
 add-k c =
@@ -102,7 +102,7 @@ returns c =
     let at-index = at-place-src .before in
     let at-loop = at-index .before .before in
     let start = at-loop .before in
-    going-round (start .pre .1) (at-loop .loop .inv) (at-index .index .ensures .0) (at-place-src .place-src .ensures .is) (at-wide .wide .ensures .0) (at-count .count .ensures .0) (c .if1 .taken)
+    going-round (start .pre .1) (at-loop .loop .inv) (at-index .word-index .ensures .0) (at-place-src .place-src .ensures .is) (at-wide .quad-long .ensures .0) (at-count .byte-long .ensures .0) (c .if1 .taken)
 
 loop-less : tie.Need-loop-less Inv-loop μ-loop
 loop-less c =
@@ -119,7 +119,7 @@ loop-again c =
     let at-index = at-place-src .before in
     let at-loop = at-index .before .before in
     let start = at-loop .before in
-    going-on (start .pre .1) (at-loop .loop .inv) (at-index .index .ensures .0) (at-place-src .place-src .ensures .is) (at-wide .wide .ensures .0) (at-count .count .ensures .0) (c .if1 .left)
+    going-on (start .pre .1) (at-loop .loop .inv) (at-index .word-index .ensures .0) (at-place-src .place-src .ensures .is) (at-wide .quad-long .ensures .0) (at-count .byte-long .ensures .0) (c .if1 .left)
 
 pub go-round-spec : {M : Type 1} → statement M
 go-round-spec =
@@ -128,17 +128,17 @@ go-round-spec =
     Inv-loop
     μ-loop
     loop-holds
-    mul-index
-    element-copy-out-index
-    index-requires
+    mul-word-index
+    element-copy-out-word-index
+    word-index-requires
     sub-p
     place-src-requires
-    mul-wide
-    element-copy-out-wide
-    wide-requires
+    mul-quad-long
+    element-copy-out-quad-long
+    quad-long-requires
     add-time
-    element-copy-out-count
-    count-requires
+    element-copy-out-byte-long
+    byte-long-requires
     add-tokens
     add-k
     returns
