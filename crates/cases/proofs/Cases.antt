@@ -22,7 +22,5 @@ case? (case times edges said) = let f = fileOf times edges in every (said? f (lo
 
 -- P1 to P10 hold.
 pub cases-hold : P1-to-P10
-unfolding lookOf trailerAt operationsAt operationsOf edgesAt edgesOf backOf operationTime edgeByte word quad srcOf dstOf startAt timeOf sum upto others
-
-unfolding nodeTime ℕ-discrete reportText headText opsLine boundLines circuitLine ringPlaces waitLines item itemLine pairLine lineEnd digits digitsBy
+unfolding lookOf trailerAt operationsAt operationsOf edgesAt edgesOf backOf operationTime edgeByte word quad srcOf dstOf startAt timeOf sum upto others nodeTime ℕ-discrete reportText headText opsLine boundLines circuitLine ringPlaces waitLines item itemLine pairLine lineEnd digits digitsBy
 cases-hold = given (every case? table) tt

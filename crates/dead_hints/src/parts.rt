@@ -1,9 +1,9 @@
 // Levels by strong components, found by a depth-first search (Tarjan): transitions of one component share a level, and an empty place out of it leads higher.
-use casts::byte_index;
-use casts::word_index;
 use crate::lists::follow;
 use crate::lists::goal_of;
 use crate::lists::link_places;
+use casts::byte_index;
+use casts::word_index;
 use net::EDGES;
 use net::PLACES;
 use net::TRANSITIONS;

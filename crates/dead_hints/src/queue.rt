@@ -1,9 +1,9 @@
 // Levels by a queue: a transition is struck out once every empty place into it comes from one struck out before it.
-use casts::byte_index;
-use casts::word_index;
 use crate::lists::follow;
 use crate::lists::goal_of;
 use crate::lists::link_places;
+use casts::byte_index;
+use casts::word_index;
 use net::EDGES;
 use net::PLACES;
 use net::TRANSITIONS;

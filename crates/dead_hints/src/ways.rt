@@ -1,10 +1,10 @@
 // The way to each transition: the empty place by which a search from one transition first reaches it.
-use casts::byte_index;
-use casts::word_index;
 use crate::lists::follow;
 use crate::lists::goal_of;
 use crate::lists::link_places;
 use crate::queue::push;
+use casts::byte_index;
+use casts::word_index;
 use net::EDGES;
 use net::PLACES;
 use net::TRANSITIONS;
@@ -87,7 +87,15 @@ fn reach(
     let mut end = push(t, &mut queue, 0);
     let mut done = 0;
     while done < end {
-        end = spread_from(byte_index(queue[done]), head, next, goal, via, &mut queue, end);
+        end = spread_from(
+            byte_index(queue[done]),
+            head,
+            next,
+            goal,
+            via,
+            &mut queue,
+            end,
+        );
         done += 1;
     }
 }

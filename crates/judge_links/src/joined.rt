@@ -1,6 +1,6 @@
 // Row 8: the lowest node that is not joined to the source. Marks spread along the edges, pass after pass, until a pass marks nothing; a tour saves passes.
-use casts::byte_index;
 use crate::tour::tour;
+use casts::byte_index;
 use net::EDGES;
 use net::NODES;
 use refusal::Found;

@@ -1,12 +1,12 @@
 // The seven calls, each with its line: the name, the refusal's number and place, the values, and the lent memory afterwards.
-use casts::byte_long;
-use casts::quad_long;
 use crate::print::bytes;
 use crate::print::entries;
 use crate::print::head;
 use crate::print::number;
 use crate::print::word;
 use bounds::reply::Bounds;
+use casts::byte_long;
+use casts::quad_long;
 use reader::graph::Graph;
 use refusal::Verdict;
 use refusal::none;
