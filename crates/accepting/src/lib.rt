@@ -1,4 +1,3 @@
 // Refusals 10 and 11: is this a marking, and do firings lead to it from the start?
 pub mod accepts;
 pub mod fits;
-pub mod reached;

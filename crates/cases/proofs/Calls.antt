@@ -16,7 +16,8 @@ use Rattle.net.proofs.Shapes.{wired-proper}
 use Rattle.reader.specs.Reply.{shown}
 use Rattle.reader.specs.declared.graph.Graph.{Graph}
 use Rattle.accepting.specs.Rows.{Marking, Reachable, runRows, startRows, waitRows}
-use Rattle.firing.specs.Step.{LowestEmpty, Steps, waits}
+use Rattle.firing.specs.Step.{Steps, waits}
+use Rattle.marked.specs.Firing.{LowestEmpty}
 use Rattle.firing.specs.declared.step.Answer.the-variants.{Refused}
 use Rattle.stepping.specs.Replies.{AtStart}
 use Rattle.cases.specs.Said.{by}

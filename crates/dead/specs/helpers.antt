@@ -1,4 +1,3 @@
 -- Words of the helpers beneath `first_dead`: what levels clear, what a ring shows, what distances close.
-pub mod Level
 pub mod Ring
 pub mod Closing

@@ -1,4 +1,3 @@
 -- Words between functions beneath the calls; no promise needs them.
-pub mod Search
 pub mod Move
 pub mod Few

@@ -1,14 +1,12 @@
 // The verdict on a graph: rows 5 to 9, asked in order of its rows. The graph may come from a file or from lists.
-mod edges;
-mod operations;
 mod tokens;
 
-use edges::first_wrong;
 use judge_links::joined::first_apart;
 use judge_links::linked::first_bare;
+use judge_tables::edges::first_wrong;
+use judge_tables::operations::first_late;
 use net::EDGES;
 use net::OPERATIONS;
-use operations::first_late;
 use refusal::Found;
 use refusal::Verdict;
 use refusal::refuse;

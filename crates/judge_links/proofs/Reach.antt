@@ -13,7 +13,8 @@ use Rattle.marked.specs.Net.{at}
 use Rattle.net.specs.Plan.{Joined, against, along, source}
 use Rattle.net.specs.Good.{Wired}
 use Rattle.net.specs.Plan.{wires}
-use Rattle.judge_links.specs.helpers.Ticks.{Ended, Even, Marks, Passed, Reached, Spread, missing}
+use Rattle.judge_tour.specs.helpers.Ended.{Ended}
+use Rattle.judge_links.specs.helpers.Ticks.{Even, Marks, Passed, Reached, Spread, missing}
 use Rattle.marked.proofs.Fresh.{zeros}
 
 -- Rows within the limits have room for their ends among the marks.

@@ -1,6 +1,6 @@
 // Row 8: the lowest node that is not joined to the source. Marks spread along the edges, pass after pass, until a pass marks nothing; a tour saves passes.
-use crate::tour::tour;
 use casts::byte_index;
+use judge_tour::tour;
 use net::EDGES;
 use net::NODES;
 use refusal::Found;
@@ -10,7 +10,8 @@ ghost use Rattle.net.specs.Good.{Wired};
 ghost use Rattle.net.specs.Rules.{row8};
 ghost use Rattle.refusal.specs.helpers.Answers.{Finds};
 ghost use Rattle.net.specs.Plan.{wires};
-ghost use Rattle.judge_links.specs.helpers.Ticks.{Ended, Led, Marks, Passed, Reached, Spread};
+ghost use Rattle.judge_tour.specs.helpers.Ended.{Ended};
+ghost use Rattle.judge_links.specs.helpers.Ticks.{Led, Marks, Passed, Reached, Spread};
 
 // Where one end of edge k is marked, the other is marked too. The answer is whether a node has been marked, now or before.
 fn spread(

@@ -10,7 +10,8 @@ ghost use Rattle.net.specs.Good.{Wired};
 ghost use Rattle.net.specs.Rules.{row7};
 ghost use Rattle.refusal.specs.helpers.Answers.{Finds, Says};
 ghost use Rattle.net.specs.Plan.{wires};
-ghost use Rattle.judge_links.specs.helpers.Ticks.{Bound, Roomy, Ticks};
+ghost use Rattle.judge_tour.specs.helpers.Ended.{Roomy};
+ghost use Rattle.judge_links.specs.helpers.Ticks.{Bound, Ticks};
 
 // Marks each node that is an end of an edge: its from, or its to, whichever row is lent.
 fn tick(e: usize, ends: &[u8; EDGES]) -> [u8; NODES]

@@ -1,6 +1,4 @@
 pub mod Shapes
-pub mod Relaxing
-pub mod Fewest
 pub mod Starting
 pub mod Timing
 pub mod Table

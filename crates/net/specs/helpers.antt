@@ -2,6 +2,5 @@
 pub mod Lent
 pub mod Work
 pub mod Distance
-pub mod Relax
 pub mod Start
 pub mod Times

@@ -1,5 +1,4 @@
 // The computational graph of document 01, over the operation count and the rows of the edges.
-pub mod distances;
 pub mod ends;
 pub mod start;
 pub mod times;

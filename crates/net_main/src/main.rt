@@ -1,10 +1,10 @@
 // Prints the dead transition, if there is one, and the distances from every transition, for document 01's graphs P1 to P6 at the start.
 use casts::word_long;
 use dead::first_dead;
+use distances::distances;
 use net::EDGES;
 use net::PLACES;
 use net::TRANSITIONS;
-use net::distances::distances;
 use net::start::start_marking;
 use refusal::Found;
 ghost use Prim.Native.Nat.{_+_, _*_, _<_, _≤_};

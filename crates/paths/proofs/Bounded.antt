@@ -10,7 +10,7 @@ use Rattle.marked.specs.Net.{at}
 use Rattle.marked.proofs.Tallies.{upto-most}
 use Rattle.net.specs.Plan.{Plan, rows, timeAt}
 use Rattle.paths.specs.Longest.{effort}
-use Rattle.net.specs.helpers.Relax.{total}
+use Rattle.distances.specs.helpers.Relax.{total}
 use Rattle.paths.specs.helpers.Finishing.{Backed, PathTo}
 use Rattle.paths.proofs.Distinct.{path-effort}
 use Rattle.paths.proofs.Passing.{Passing, good-passing}

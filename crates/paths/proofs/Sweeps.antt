@@ -8,7 +8,7 @@ use native.Mathlib.Omega.{arith}
 use lib.ListN.{length, set}
 use Rattle.marked.specs.Sums.{sum}
 use Rattle.marked.specs.Net.{at}
-use Rattle.net.specs.helpers.Relax.{total}
+use Rattle.distances.specs.helpers.Relax.{total}
 use Rattle.paths.specs.helpers.Finishing.{Backed, Lifted, EdgesSwept, doneBy, kept, lifted}
 use Rattle.paths.proofs.Offers.{inside, lifted-backed}
 

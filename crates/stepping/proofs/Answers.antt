@@ -12,7 +12,7 @@ use Rattle.reader.specs.Reply.{LookReply}
 use Rattle.reader.specs.Outcome.{passed, refused as stopped, unread}
 use Rattle.reader.specs.declared.graph.Look.{Look}
 use Rattle.accepting.specs.Rows.{MarkingBytes}
-use Rattle.accepting.specs.helpers.Wiring.{plotted}
+use Rattle.accepting_reached.specs.helpers.Wiring.{plotted}
 use Rattle.firing.specs.declared.step.Answer.{Answer}
 use Rattle.firing.specs.declared.step.Answer.the-variants.{Refused}
 use Rattle.firing.specs.helpers.Few.{Few}

@@ -11,7 +11,7 @@ use running::repeat::End;
 use running::repeat::Ran;
 use running::repeat::run_rows;
 ghost use Rattle.net.specs.Good.{Marked};
-ghost use Rattle.accepting.specs.helpers.Wiring.{GoodWiring, plotted};
+ghost use Rattle.accepting_reached.specs.helpers.Wiring.{GoodWiring, plotted};
 ghost use Rattle.stepping.specs.helpers.Work.{GraphRun, GraphStarted, GraphStepped};
 
 // What stood in the buffer is no fault: only its length is tested.

@@ -5,7 +5,7 @@ use accepting::accepts::accepts;
 use net::EDGES;
 use refusal::Refusal;
 use refusal::Verdict;
-ghost use Rattle.accepting.specs.helpers.Wiring.{GoodWiring, plotted};
+ghost use Rattle.accepting_reached.specs.helpers.Wiring.{GoodWiring, plotted};
 ghost use Rattle.waiting.specs.helpers.Work.{GraphWaits};
 
 pub fn answer<'a>(

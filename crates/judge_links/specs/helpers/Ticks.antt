@@ -4,20 +4,10 @@ use mathlib.Core.Path.{_≡_}
 use mathlib.Core.Bool.{Bool, true, false}
 use mathlib.Core.List.{List, [], _∷_}
 use lib.ListN.{length}
-use Rattle.net.specs.Limits.{mostEdges, mostNodes}
+use Rattle.net.specs.Limits.{mostNodes}
 use Rattle.marked.specs.Net.{at}
 use Rattle.net.specs.Plan.{Joined, wires}
 use Rattle.net.specs.Rules.{Touched}
-
--- Each of the first e entries is a node that some graph may have: there is room for it among the marks.
-abbrev pub Roomy : ℕ → List ℕ → Type 0
-Roomy e ends = (k : ℕ) → k < e → at ends k < mostNodes
-
--- At most 128 edges, and their ends are such nodes.
-pub record Ended (e : ℕ) (from to : List ℕ) : Type 0 where
-  pub edges : e ≤ mostEdges
-  pub leaves : Roomy e from
-  pub enters : Roomy e to
 
 -- Exactly the nodes that are an end of one of the first e edges are marked 1.
 pub record Ticks (e : ℕ) (ends seen : List ℕ) : Type 0 where

@@ -2,7 +2,7 @@
 use denote.Ref.{now}
 use borrow.Author.Needs.{needs}
 use Rattle.reader.proofs.Accepting.{accepted-good}
-use Rattle.accepting.specs.helpers.Wiring.{GoodWiring}
+use Rattle.accepting_reached.specs.helpers.Wiring.{GoodWiring}
 use Rattle.accepting.proofs.Judging.{good-wiring}
 use Rattle.waiting.proofs.Answers.{ended-reply, unread-reply}
 use Rattle.waiting.proofs.wait.Statement.{statement}

@@ -7,7 +7,7 @@ use borrow.Author.Needs.{needs}
 use Rattle.refusal.specs.Asking.{Sound}
 use Rattle.net.specs.Plan.{Plan}
 use Rattle.accepting.specs.Rows.{runRows}
-use Rattle.accepting.specs.helpers.Wiring.{plotted}
+use Rattle.accepting_reached.specs.helpers.Wiring.{plotted}
 use Rattle.accepting.proofs.Judging.{marking-given, marking-sound}
 use Rattle.stepping.specs.helpers.Work.GraphRun.{kept, taken}
 use Rattle.stepping.proofs.Answers.{accepted-few}

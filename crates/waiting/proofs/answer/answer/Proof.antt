@@ -8,7 +8,7 @@ use mathlib.Core.Path.{refl}
 use Rattle.refusal.specs.Asking.{Sound}
 use Rattle.net.specs.Plan.{Plan}
 use Rattle.accepting.specs.Rows.{runRows}
-use Rattle.accepting.specs.helpers.Wiring.{plotted}
+use Rattle.accepting_reached.specs.helpers.Wiring.{plotted}
 use Rattle.accepting.proofs.Judging.{marking-given, marking-sound}
 use Rattle.waiting.proofs.Answers.{answers-12, answers-row, answers-wait}
 use Rattle.waiting.proofs.answer.answer.Statement.{statement}

@@ -1,3 +1,0 @@
--- Words between functions beneath the calls; no promise needs them.
-pub mod Wiring
-pub mod Across
