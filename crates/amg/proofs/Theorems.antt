@@ -9,8 +9,8 @@ use Rattle.file.proofs.Labels.{labels-refl}
 use Rattle.reader.specs.declared.graph.Look.{Look}
 use Rattle.reader.proofs.Labels.{look-label-blind}
 use Rattle.stepping.proofs.Replies.{run-label-blind, start-label-blind, step-label-blind}
-use Rattle.waiting.specs.declared.reply.Wait.{Wait}
-use Rattle.waiting.specs.declared.reply.Wait.the-variants.{Waits}
+use Rattle.waiting_graph.specs.declared.reply.Wait.{Wait}
+use Rattle.waiting_graph.specs.declared.reply.Wait.the-variants.{Waits}
 use Rattle.waiting.specs.Reply.{WaitReply}
 use Rattle.waiting.proofs.Theorems.{wait-label-blind, wait-small}
 use Rattle.bounds.specs.declared.reply.Bounds.{Bounds}

@@ -6,11 +6,11 @@ use Rattle.refusal.specs.None.{refusalOf}
 use Rattle.reader.specs.declared.graph.Look.{Look}
 use Rattle.reader.specs.Reply.{LookReply}
 use Rattle.firing.specs.declared.step.Answer.{Answer}
-use Rattle.stepping.specs.declared.reply.Start.{Start}
+use Rattle.stepping_graph.specs.declared.reply.Start.{Start}
 use Rattle.running.specs.declared.repeat.Ran.{Ran}
-use Rattle.stepping.specs.Numbers.{endRefusal, startRefusal, stepRefusal}
+use Rattle.stepping_graph.specs.Numbers.{endRefusal, startRefusal, stepRefusal}
 use Rattle.stepping.specs.Replies.{RunReply, StartReply, StepReply}
-use Rattle.waiting.specs.declared.reply.Wait.{Wait}
+use Rattle.waiting_graph.specs.declared.reply.Wait.{Wait}
 use Rattle.waiting.specs.Reply.{WaitReply}
 use Rattle.bounds.specs.declared.reply.Bounds.{Bounds}
 use Rattle.bounds.specs.Reply.{BoundsReply}

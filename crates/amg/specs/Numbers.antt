@@ -2,8 +2,8 @@
 use Prim.Native.Nat.{ℕ}
 use Rattle.refusal.specs.declared.Refusal.{Refusal}
 use Rattle.refusal.specs.None.{noRefusal}
-use Rattle.waiting.specs.declared.reply.Wait.{Wait}
-use Rattle.waiting.specs.declared.reply.Wait.the-variants.{Refused as WaitRefused, Waits}
+use Rattle.waiting_graph.specs.declared.reply.Wait.{Wait}
+use Rattle.waiting_graph.specs.declared.reply.Wait.the-variants.{Refused as WaitRefused, Waits}
 use Rattle.bounds.specs.declared.reply.Bounds.{Bounds}
 use Rattle.bounds.specs.declared.reply.Bounds.the-variants.{Bounded, Refused as BoundsRefused}
 use Rattle.report.specs.declared.reply.Report.{Report}

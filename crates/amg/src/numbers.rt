@@ -3,7 +3,7 @@ use bounds::reply::Bounds;
 use refusal::Refusal;
 use refusal::none;
 use report::reply::Report;
-use waiting::reply::Wait;
+use waiting_graph::reply::Wait;
 ghost use mathlib.Core.Path.{_≡_};
 ghost use Rattle.amg.specs.Numbers.{boundsCount, boundsRefusal, reportRefusal, waitCount, waitRefusal};
 

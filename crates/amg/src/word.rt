@@ -4,7 +4,7 @@ use bounds::reply::Bounds;
 use refusal::Refusal;
 use report::reply;
 use report::reply::Report;
-use waiting::reply::Wait;
+use waiting_graph::reply::Wait;
 ghost use mathlib.Core.Path.{_≡_};
 ghost use Prim.Native.Nat.{min};
 ghost use Rattle.amg.specs.Numbers.{boundsCount, boundsRefusal, reportCount, reportRefusal, waitCount, waitRefusal};

@@ -13,9 +13,9 @@ use Rattle.reader.specs.Reply.{LookReply, shown}
 use Rattle.reader.specs.declared.graph.Look.{Look}
 use Rattle.firing.specs.declared.step.Answer.the-variants.{Refused as StepRefused}
 use Rattle.running.specs.declared.repeat.End.the-variants.{Refused as RunRefused}
-use Rattle.stepping.specs.declared.reply.Start.the-variants.{Started}
+use Rattle.stepping_graph.specs.declared.reply.Start.the-variants.{Started}
 use Rattle.stepping.specs.Replies.{RunReply, StartReply, StepReply}
-use Rattle.waiting.specs.declared.reply.Wait.the-variants.{Refused as WaitRefused}
+use Rattle.waiting_graph.specs.declared.reply.Wait.the-variants.{Refused as WaitRefused}
 use Rattle.waiting.specs.Reply.{WaitReply}
 use Rattle.tbo.specs.TBO.{TBO}
 use Rattle.paths.specs.Longest.{TBIO, TCE, TT}

@@ -5,12 +5,11 @@ use Prim.Native.Nat.{_*_, _+_, _-_, _≤_, suc, zero, ℕ}
 use native.Mathlib.Numerals.{add-one}
 use native.Mathlib.Omega.{arith}
 use lib.ListN.{length}
-use Rattle.marked.specs.Sums.{sum, upto}
+use Rattle.marked.specs.Sums.{sum, total, upto}
 use Rattle.marked.specs.Net.{at}
 use Rattle.marked.proofs.Tallies.{upto-most}
 use Rattle.net.specs.Plan.{Plan, rows, timeAt}
 use Rattle.paths.specs.Longest.{effort}
-use Rattle.distances.specs.helpers.Relax.{total}
 use Rattle.paths.specs.helpers.Finishing.{Backed, PathTo}
 use Rattle.paths.proofs.Distinct.{path-effort}
 use Rattle.paths.proofs.Passing.{Passing, good-passing}

@@ -6,9 +6,8 @@ use Prim.Native.Nat.{_+_, _<_, _≤_, suc, zero, ℕ}
 use native.Mathlib.Decide.{ℕ-discrete}
 use native.Mathlib.Omega.{arith}
 use lib.ListN.{length, set}
-use Rattle.marked.specs.Sums.{sum}
+use Rattle.marked.specs.Sums.{sum, total}
 use Rattle.marked.specs.Net.{at}
-use Rattle.distances.specs.helpers.Relax.{total}
 use Rattle.paths.specs.helpers.Finishing.{Backed, Lifted, EdgesSwept, doneBy, kept, lifted}
 use Rattle.paths.proofs.Offers.{inside, lifted-backed}
 

@@ -11,10 +11,10 @@ use reader::graph::Graph;
 use refusal::Verdict;
 use refusal::none;
 use report::reply::Report;
-use stepping::reply::end_refusal;
-use stepping::reply::start_refusal;
-use stepping::reply::step_refusal;
-use waiting::reply::Wait;
+use stepping_graph::reply::end_refusal;
+use stepping_graph::reply::start_refusal;
+use stepping_graph::reply::step_refusal;
+use waiting_graph::reply::Wait;
 ghost use Prim.Native.Nat.{_≤_};
 ghost use Rattle.net.specs.Limits.{mostEdges, mostOperations};
 

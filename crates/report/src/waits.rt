@@ -2,7 +2,7 @@
 use net::EDGES;
 use net::PLACES;
 use net::start::start_marking;
-use waiting::sum::wait_sum;
+use waiting_graph::sum::wait_sum;
 ghost use Rattle.report.specs.helpers.Waited.{Waited, WaitsAsk};
 
 pub fn start_waits<'a>(

@@ -16,12 +16,13 @@ use Rattle.firing.specs.Step.{Steps}
 use Rattle.firing.specs.helpers.Few.{Few}
 use Rattle.firing.proofs.Fews.{few-kept}
 use Rattle.firing.proofs.Steps.{steps-firing, steps-long}
-use Rattle.running.specs.declared.entry.RunRecord.{RunRecord}
+use Rattle.running_entry.specs.declared.RunRecord.{RunRecord}
 use Rattle.running.specs.declared.repeat.End.{End}
 use Rattle.running.specs.declared.repeat.End.the-variants.{Done, Refused as RunRefused}
-use Rattle.running.specs.Run.{EntryTaken, Runs, advanced}
+use Rattle.running.specs.Run.{Runs}
+use Rattle.running_entry.specs.Entry.{EntryTaken, advanced}
 use Rattle.running.specs.Run.Runs.{ends, goes, stops}
-use Rattle.running.specs.helpers.Ready.{EntryReady}
+use Rattle.running_entry.specs.helpers.Ready.{EntryReady}
 
 -- The count of a run, otherwise written.
 counts : {g : Net} {m ts z : List ℕ} {j k : ℕ} {x : End} → j ≡ k → Runs g m ts j x z → Runs g m ts k x z

@@ -1,3 +1,2 @@
-// A run over the rows of a graph: the run record, and a list of entries taken one at a time.
-pub mod entry;
+// A run over the rows of a graph: a list of entries, taken one at a time.
 pub mod repeat;

@@ -1,9 +1,9 @@
 // A run: entries are taken one at a time, up to the first refused.
-use crate::entry::RunRecord;
-use crate::entry::take;
 use firing::step::Answer;
 use net::EDGES;
 use refusal::Refusal;
+use running_entry::RunRecord;
+use running_entry::take;
 ghost use Rattle.net.specs.Plan.{wires};
 ghost use Rattle.net.specs.Graph.{netOf};
 ghost use Rattle.firing.specs.helpers.Few.{Few};

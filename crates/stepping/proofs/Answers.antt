@@ -1,38 +1,30 @@
--- From rows 10 and 11 and the work to the reply, of a graph and of a file.
+-- From the reply for a graph to the reply for a file.
 use mathlib.Core.Path.{_≡_, _∙_, refl}
 use mathlib.Core.List.{List}
-use Prim.Native.Nat.{_*_, _+_, ℕ}
+use Prim.Native.Nat.{ℕ}
 use native.Mathlib.Omega.{arith}
 use Rattle.refusal.specs.declared.Refusal.{Refusal}
 use Rattle.refusal.specs.declared.Verdict.the-variants.{Accepted as Passed, Refused as Stopped}
 use Rattle.refusal.proofs.Asked.{given-here, lowest-whole, sound-next, sound-none}
 use Rattle.net.specs.Plan.{Plan}
-use Rattle.net.specs.Good.{Wired}
 use Rattle.reader.specs.Reply.{LookReply}
 use Rattle.reader.specs.Outcome.{passed, refused as stopped, unread}
 use Rattle.reader.specs.declared.graph.Look.{Look}
-use Rattle.accepting.specs.Rows.{MarkingBytes}
 use Rattle.accepting_reached.specs.helpers.Wiring.{plotted}
 use Rattle.firing.specs.declared.step.Answer.{Answer}
 use Rattle.firing.specs.declared.step.Answer.the-variants.{Refused}
-use Rattle.firing.specs.helpers.Few.{Few}
-use Rattle.firing.proofs.Fews.{few-single}
 use Rattle.running.specs.declared.repeat.Ran.{Ran}
 use Rattle.running.specs.declared.repeat.End.the-variants.{Refused as RunRefused}
-use Rattle.stepping.specs.declared.reply.Start.{Start}
-use Rattle.stepping.specs.declared.reply.Start.the-variants.{Refused as StartRefused}
+use Rattle.stepping_graph.specs.declared.reply.Start.{Start}
+use Rattle.stepping_graph.specs.declared.reply.Start.the-variants.{Refused as StartRefused}
 use Rattle.stepping.specs.Replies.{RunReply, StartReply, StepReply}
 use Rattle.stepping.specs.Replies.StartReply.{refused as start-refused, started}
 use Rattle.stepping.specs.Replies.StepReply.{refused as step-refused, stepped}
 use Rattle.stepping.specs.Replies.RunReply.{ran, refused as run-refused}
-use Rattle.stepping.specs.helpers.Work.{GraphRun, GraphStarted, GraphStepped}
-use Rattle.stepping.specs.helpers.Work.GraphStarted.{filled, unfit}
-use Rattle.stepping.specs.helpers.Work.GraphStepped.{kept as step-kept, taken as step-taken}
-use Rattle.stepping.specs.helpers.Work.GraphRun.{kept as run-kept, taken as run-taken}
-
--- An accepted marking has few tokens.
-pub accepted-few : {n e : ℕ} {from to m : List ℕ} → Wired n e from to → MarkingBytes (3 * n + 2 * e) m → Few n e from to m
-accepted-few w b = few-single (record { wired = w; long = omega (arith, b .fits) }) (b .single)
+use Rattle.stepping_graph.specs.helpers.Work.{GraphRun, GraphStarted, GraphStepped}
+use Rattle.stepping_graph.specs.helpers.Work.GraphStarted.{filled, unfit}
+use Rattle.stepping_graph.specs.helpers.Work.GraphStepped.{kept as step-kept, taken as step-taken}
+use Rattle.stepping_graph.specs.helpers.Work.GraphRun.{kept as run-kept, taken as run-taken}
 
 -- Look's graph, but for its times.
 abbrev plan : Look → Plan

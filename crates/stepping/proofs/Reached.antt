@@ -32,7 +32,7 @@ use Rattle.running.specs.declared.repeat.End.the-variants.{Done, Refused as Run
 use Rattle.running.specs.Run.{Runs}
 use Rattle.running.specs.Run.Runs.{ends, goes, stops}
 use Rattle.running.proofs.Firings.{runs-fires}
-use Rattle.stepping.specs.declared.reply.Start.the-variants.{Started}
+use Rattle.stepping_graph.specs.declared.reply.Start.the-variants.{Started}
 use Rattle.stepping.specs.Replies.{RunReply, StartReply, StepReply}
 use Rattle.stepping.specs.Replies.StartReply.{started}
 use Rattle.stepping.specs.Replies.StepReply.{refused as step-refused, stepped}

@@ -20,8 +20,8 @@ use Rattle.running.specs.declared.repeat.Ran.{Ran}
 use Rattle.running.specs.declared.repeat.End.the-variants.{Refused as RunRefused}
 use Rattle.running.specs.Run.{Runs}
 use Rattle.running.proofs.Determined.{runs-determined}
-use Rattle.stepping.specs.declared.reply.Start.{Start}
-use Rattle.stepping.specs.declared.reply.Start.the-variants.{Refused as StartRefused}
+use Rattle.stepping_graph.specs.declared.reply.Start.{Start}
+use Rattle.stepping_graph.specs.declared.reply.Start.the-variants.{Refused as StartRefused}
 use Rattle.stepping.specs.Replies.{AtStart, RunReply, StartReply, StepReply}
 use Rattle.stepping.specs.Replies.StartReply.{refused as start-refused, started}
 use Rattle.stepping.specs.Replies.StepReply.{refused as step-refused, stepped}

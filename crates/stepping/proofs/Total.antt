@@ -16,8 +16,8 @@ use Rattle.reader.specs.Reply.{LookReply, shown}
 use Rattle.reader.specs.Outcome.{passed, refused as stopped, unread}
 use Rattle.reader.specs.declared.graph.Look.{Look}
 use Rattle.reader.proofs.Total.{look-total, lookOf}
-use Rattle.stepping.specs.declared.reply.Start.{Start}
-use Rattle.stepping.specs.declared.reply.Start.the-variants.{Refused as StartRefused, Started}
+use Rattle.stepping_graph.specs.declared.reply.Start.{Start}
+use Rattle.stepping_graph.specs.declared.reply.Start.the-variants.{Refused as StartRefused, Started}
 use Rattle.stepping.specs.Replies.{AtStart, StartReply}
 use Rattle.stepping.specs.Replies.StartReply.{refused, started}
 

@@ -16,8 +16,8 @@ use Rattle.firing.specs.Step.{Steps}
 use Rattle.running.specs.declared.repeat.Ran.{Ran}
 use Rattle.running.specs.declared.repeat.End.the-variants.{Refused as RunRefused}
 use Rattle.running.specs.Run.{Runs}
-use Rattle.stepping.specs.declared.reply.Start.{Start}
-use Rattle.stepping.specs.declared.reply.Start.the-variants.{Refused as StartRefused, Started}
+use Rattle.stepping_graph.specs.declared.reply.Start.{Start}
+use Rattle.stepping_graph.specs.declared.reply.Start.the-variants.{Refused as StartRefused, Started}
 
 -- The bytes z are the starting marking of a graph: one byte a place, its tokens at the start.
 pub record AtStart (g : Plan) (z : List ℕ) : Type 0 where

@@ -1,16 +1,13 @@
 // `start`, `step` and `run`: the calls that write a marking, one byte a place.
-mod graph;
-pub mod reply;
-
 use firing::step::Answer;
-use graph::run_graph;
-use graph::start_graph;
-use graph::step_graph;
 use reader::look;
 use refusal::Verdict;
-use reply::Start;
 use running::repeat::End;
 use running::repeat::Ran;
+use stepping_graph::graph::run_graph;
+use stepping_graph::graph::start_graph;
+use stepping_graph::graph::step_graph;
+use stepping_graph::reply::Start;
 ghost use Rattle.stepping.specs.Replies.{RunReply, StartReply, StepReply};
 
 // Fills the marking with the start of a file's graph, or gives the lowest of refusals 1 to 10 that applies and writes nothing.

@@ -1,3 +1,2 @@
-pub mod Adding
 pub mod Answers
 pub mod Theorems

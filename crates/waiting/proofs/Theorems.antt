@@ -20,8 +20,8 @@ use Rattle.accepting.specs.Rows.{waitRows}
 use Rattle.waiting.specs.Reply.{WaitReply}
 use Rattle.waiting.specs.Reply.WaitReply.{refused, waits}
 use Rattle.waiting.specs.Demand.{Demanded}
-use Rattle.waiting.specs.declared.reply.Wait.{Wait}
-use Rattle.waiting.specs.declared.reply.Wait.the-variants.{Refused, Waits}
+use Rattle.waiting_graph.specs.declared.reply.Wait.{Wait}
+use Rattle.waiting_graph.specs.declared.reply.Wait.the-variants.{Refused, Waits}
 
 -- Two replies that `WaitReply` allows are equal.
 pub wait-determined : (f m : List ℕ) (t : ℕ) (r s : Wait) → WaitReply f m t r → WaitReply f m t s → r ≡ s

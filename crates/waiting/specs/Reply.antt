@@ -9,8 +9,8 @@ use Rattle.reader.specs.Reply.{shown}
 use Rattle.reader.specs.Outcome.{Ends, accepted, refusal}
 use Rattle.reader.specs.declared.graph.Graph.{Graph}
 use Rattle.accepting.specs.Rows.{waitRows}
-use Rattle.waiting.specs.declared.reply.Wait.{Wait}
-use Rattle.waiting.specs.declared.reply.Wait.the-variants.{Refused, Waits}
+use Rattle.waiting_graph.specs.declared.reply.Wait.{Wait}
+use Rattle.waiting_graph.specs.declared.reply.Wait.the-variants.{Refused, Waits}
 
 -- `wait` of a file f, a marking m and a transition t: a refusal is given, 1 to 12; or, of look's graph, the sum over the other transitions of the
 -- fewest tokens on a walk from t to them.

@@ -1,12 +1,8 @@
 // `wait`: how many firings a transition can be kept waiting for.
-mod answer;
-pub mod reply;
-pub mod sum;
-
-use answer::answer;
 use reader::look;
 use refusal::Verdict;
-use reply::Wait;
+use waiting_graph::answer::answer;
+use waiting_graph::reply::Wait;
 ghost use Rattle.waiting.specs.Reply.{WaitReply};
 
 // The wait of a transition from a marking of a file's graph, or the lowest of refusals 1 to 12 that applies. Nothing is written.

@@ -10,7 +10,7 @@ use Rattle.marked.specs.Net.{at}
 use Rattle.net.specs.Plan.{Plan, rows, timeAt}
 use Rattle.net.specs.Ends.{pick}
 use Rattle.net.specs.Good.{Good}
-use Rattle.distances.specs.helpers.Relax.{total}
+use Rattle.marked.specs.Sums.{total}
 use Rattle.paths.specs.Modified.{Path, nodeTime, pathTime}
 
 -- The most nodes: the source, the operations and the sink.

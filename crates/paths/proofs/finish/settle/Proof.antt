@@ -3,7 +3,7 @@ use Prim.Native.Nat.{_*_, _-_}
 use native.Mathlib.Omega.{arith}
 use Rattle.net.specs.Plan.{rows}
 use Rattle.paths.specs.Longest.{effort}
-use Rattle.distances.specs.helpers.Relax.{total}
+use Rattle.marked.specs.Sums.{total}
 use Rattle.paths.specs.helpers.Finishing.{Backed}
 use Rattle.paths.proofs.Bounded.{entries-most}
 use Rattle.paths.proofs.finish.settle.Statement.{statement}

@@ -1,0 +1,3 @@
+// `start`, `step` and `run` of a graph that look has accepted, over its rows, and what they reply.
+pub mod graph;
+pub mod reply;
