@@ -13,7 +13,7 @@ use Rattle.waiting_graph.specs.declared.reply.Wait.{Wait}
 use Rattle.waiting_graph.specs.declared.reply.Wait.the-variants.{Waits}
 use Rattle.waiting.specs.Reply.{WaitReply}
 use Rattle.waiting.proofs.Theorems.{wait-label-blind, wait-small}
-use Rattle.bounds.specs.declared.reply.Bounds.{Bounds}
+use Rattle.bounds_graph.specs.declared.reply.Bounds.{Bounds}
 use Rattle.bounds.proofs.Theorems.{bounds-label-blind}
 use Rattle.report.proofs.Theorems.{report-label-blind}
 use Rattle.amg.specs.Calls.{BoundsCall, LookCall, ReportCall, RunCall, StartCall, StepCall, ToldBy, WaitCall}

@@ -12,7 +12,7 @@ use Rattle.stepping_graph.specs.Numbers.{endRefusal, startRefusal, stepRefusal}
 use Rattle.stepping.specs.Replies.{RunReply, StartReply, StepReply}
 use Rattle.waiting_graph.specs.declared.reply.Wait.{Wait}
 use Rattle.waiting.specs.Reply.{WaitReply}
-use Rattle.bounds.specs.declared.reply.Bounds.{Bounds}
+use Rattle.bounds_graph.specs.declared.reply.Bounds.{Bounds}
 use Rattle.bounds.specs.Reply.{BoundsReply}
 use Rattle.report.specs.declared.reply.Report.{Report}
 use Rattle.report.specs.Reply.{ReportReply}

@@ -4,8 +4,8 @@ use Prim.Native.Nat.{ℕ}
 use Rattle.refusal.specs.declared.Verdict.{Verdict}
 use Rattle.refusal.specs.declared.Verdict.the-variants.{Accepted, Refused as LookRefused}
 use Rattle.reader.specs.declared.graph.Graph.{Graph}
-use Rattle.bounds.specs.declared.reply.Bounds.{Bounds}
-use Rattle.bounds.specs.declared.reply.Bounds.the-variants.{Bounded, Refused as BoundsRefused}
+use Rattle.bounds_graph.specs.declared.reply.Bounds.{Bounds}
+use Rattle.bounds_graph.specs.declared.reply.Bounds.the-variants.{Bounded, Refused as BoundsRefused}
 
 -- The arrays lent to look.
 pub record Tables : Type 0 where

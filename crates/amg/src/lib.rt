@@ -2,7 +2,7 @@
 mod numbers;
 mod word;
 
-use bounds::reply::Bounds;
+use bounds_graph::reply::Bounds;
 use net::EDGES;
 use net::OPERATIONS;
 use refusal::Verdict;

@@ -1,5 +1,5 @@
 // The number and the place that document 01 has for each case of a reply, 0 and 0 where the call is done, and the count that it tells.
-use bounds::reply::Bounds;
+use bounds_graph::reply::Bounds;
 use refusal::Refusal;
 use refusal::none;
 use report::reply::Report;

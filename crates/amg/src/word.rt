@@ -1,6 +1,6 @@
 // A reply's number, place and count as one word of 64 bits.
 use crate::numbers;
-use bounds::reply::Bounds;
+use bounds_graph::reply::Bounds;
 use refusal::Refusal;
 use report::reply;
 use report::reply::Report;

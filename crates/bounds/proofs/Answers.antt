@@ -9,9 +9,9 @@ use Rattle.reader.specs.Reply.{LookReply, shown}
 use Rattle.reader.specs.Outcome.{accepted, passed, refusal, refused as stopped, unread}
 use Rattle.reader.specs.declared.graph.Look.{Look}
 use Rattle.bounds.specs.Reply.{BoundsReply, bounded as replies-bounded, refused as replies-refused}
-use Rattle.bounds.specs.helpers.Answered.{BoundsAnswered, bounded, refused}
-use Rattle.bounds.specs.declared.reply.Bounds.{Bounds}
-use Rattle.bounds.specs.declared.reply.Bounds.the-variants.{Refused}
+use Rattle.bounds_graph.specs.helpers.Answered.{BoundsAnswered, bounded, refused}
+use Rattle.bounds_graph.specs.declared.reply.Bounds.{Bounds}
+use Rattle.bounds_graph.specs.declared.reply.Bounds.the-variants.{Refused}
 
 module _ {f before : List ℕ} {l : Look} (look : LookReply f l) where
   pub unread-reply : {r : Refusal} → l .verdict ≡ Stopped r → BoundsReply f before (Refused r) before

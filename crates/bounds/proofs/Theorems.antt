@@ -20,11 +20,12 @@ use Rattle.paths.proofs.Reached.{Reached}
 use Rattle.paths.proofs.Order.{some-path, tbio-most, tbio-unique, tce-unique, tt-most, tt-unique}
 use Rattle.circuit.specs.Chosen.{Handed}
 use Rattle.circuit.proofs.Unique.{handed-unique}
-use Rattle.bounds.specs.Rows.{boundsRows}
-use Rattle.bounds.specs.Reply.{BoundsOf, BoundsReplies, BoundsReply, bounded, refused}
-use Rattle.bounds.specs.declared.reply.Bounds.{Bounds}
-use Rattle.bounds.specs.declared.reply.Bounds.the-variants.{Bounded}
-use Rattle.bounds.specs.declared.reply.Measures.{Measures}
+use Rattle.bounds_graph.specs.Rows.{boundsRows}
+use Rattle.bounds.specs.Reply.{BoundsReplies, BoundsReply, bounded, refused}
+use Rattle.bounds_graph.specs.Measured.{BoundsOf}
+use Rattle.bounds_graph.specs.declared.reply.Bounds.{Bounds}
+use Rattle.bounds_graph.specs.declared.reply.Bounds.the-variants.{Bounded}
+use Rattle.bounds_graph.specs.declared.reply.Measures.{Measures}
 
 -- The graph of an accepted file is good.
 abbrev GoodGraph : Graph → Type 0

@@ -2,26 +2,14 @@
 use mathlib.Core.List.{List}
 use Prim.Native.Nat.{ℕ}
 use Rattle.refusal.specs.declared.Refusal.{Refusal}
-use Rattle.net.specs.Plan.{Plan}
-use Rattle.net.specs.Graph.{netOf, startOf, timesOf}
 use Rattle.reader.specs.Reply.{shown}
 use Rattle.reader.specs.Outcome.{Ends, Outcome, accepted, refusal}
 use Rattle.reader.specs.declared.graph.Graph.{Graph}
-use Rattle.paths.specs.Longest.{TBIO, TCE, TT}
-use Rattle.tbo.specs.TBO.{TBO}
-use Rattle.circuit.specs.Chosen.{Handed}
-use Rattle.bounds.specs.Rows.{boundsRows}
-use Rattle.bounds.specs.declared.reply.Bounds.{Bounds}
-use Rattle.bounds.specs.declared.reply.Bounds.the-variants.{Bounded, Refused}
-use Rattle.bounds.specs.declared.reply.Measures.{Measures}
-
--- The bounds r of a graph. The circuit that attains TBO stands in the first entries of the buffer, as many as `length` tells; the others are as they were.
-pub record BoundsOf (g : Plan) (before : List ℕ) (r : Measures) (after : List ℕ) : Type 0 where
-  pub tbo-is : TBO g (r .numerator) (r .denominator)
-  pub tbio-is : TBIO g (r .tbio)
-  pub tt-is : TT g (r .tt)
-  pub tce-is : TCE g (r .tce)
-  pub circuit : Handed (netOf g) (startOf g) (timesOf g) (r .numerator) (r .denominator) before (r .length) after
+use Rattle.bounds_graph.specs.Rows.{boundsRows}
+use Rattle.bounds_graph.specs.Measured.{BoundsOf}
+use Rattle.bounds_graph.specs.declared.reply.Bounds.{Bounds}
+use Rattle.bounds_graph.specs.declared.reply.Bounds.the-variants.{Bounded, Refused}
+use Rattle.bounds_graph.specs.declared.reply.Measures.{Measures}
 
 -- What each reply says, and the buffer before and after it: the refusal, with nothing written; or the bounds of look's graph.
 pub data BoundsReplies (before : List ℕ) : Outcome → Bounds → List ℕ → Type 0 where

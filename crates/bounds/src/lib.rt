@@ -1,12 +1,9 @@
 // `bounds`: TBO with its circuit, TBIO, TT and TCE of a file's graph.
-mod answer;
-pub mod measure;
-pub mod reply;
 
-use answer::answer;
+use bounds_graph::answer::answer;
+use bounds_graph::reply::Bounds;
 use reader::look;
 use refusal::Verdict;
-use reply::Bounds;
 ghost use Rattle.bounds.specs.Reply.{BoundsReply};
 
 // The bounds of a file's graph, with the circuit that attains TBO in the first entries of the buffer; or the first of refusals 1 to 9 and 14 that

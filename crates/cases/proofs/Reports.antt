@@ -10,8 +10,8 @@ use Rattle.marked.proofs.Decide.{both?, eq?, le?, same?}
 use Rattle.net.specs.Plan.{Plan}
 use Rattle.paths.specs.Longest.{DataSink, Sink, TBIO, TT, effort}
 use Rattle.pen.specs.Lines.{Put}
-use Rattle.bounds.specs.declared.reply.Measures.{Measures}
-use Rattle.report.specs.Reply.{Numbers}
+use Rattle.bounds_graph.specs.declared.reply.Measures.{Measures}
+use Rattle.report_graph.specs.Numbers.{Numbers}
 use Rattle.report.proofs.Demand.{sets-front}
 use Rattle.cases.proofs.Trying.{Tried, and, so, try}
 use Rattle.cases.proofs.Longest.{sum?}

@@ -20,8 +20,9 @@ use Rattle.waiting.specs.Reply.{WaitReply}
 use Rattle.tbo.specs.TBO.{TBO}
 use Rattle.paths.specs.Longest.{TBIO, TCE, TT}
 use Rattle.circuit.specs.Chosen.{Chosen}
-use Rattle.bounds.specs.declared.reply.Measures.{Measures}
-use Rattle.report.specs.Reply.{Numbers, ReportReply, reportBytes, textOf}
+use Rattle.bounds_graph.specs.declared.reply.Measures.{Measures}
+use Rattle.report.specs.Reply.{ReportReply}
+use Rattle.report_graph.specs.Numbers.{Numbers, reportBytes, textOf}
 use Rattle.report.specs.declared.reply.Report.the-variants.{Written}
 
 -- The refusal k at x.

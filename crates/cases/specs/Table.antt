@@ -3,7 +3,7 @@ use mathlib.Core.List.{List, [], _∷_}
 use Prim.Native.Nat.{ℕ}
 use lib.ListN.{set}
 use Rattle.little.specs.Text.{bytes}
-use Rattle.bounds.specs.declared.reply.Measures.{Measures}
+use Rattle.bounds_graph.specs.declared.reply.Measures.{Measures}
 use Rattle.cases.specs.Files.{Arrow, fileOf, plain, star}
 use Rattle.cases.specs.Said.{Holds, Said, circuit-is, marking-refused, no-circuit, refused, report-is, step-refused, tbio-is, tbo-is, tt-is}
 

@@ -4,7 +4,7 @@ use crate::print::entries;
 use crate::print::head;
 use crate::print::number;
 use crate::print::word;
-use bounds::reply::Bounds;
+use bounds_graph::reply::Bounds;
 use casts::byte_long;
 use casts::quad_long;
 use reader::graph::Graph;

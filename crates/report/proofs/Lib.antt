@@ -1,6 +1,3 @@
-pub mod Waiting
-pub mod Small
 pub mod Refusals
-pub mod Answers
 pub mod Theorems
 pub mod Demand

@@ -24,15 +24,16 @@ use Rattle.reader.proofs.Outcomes.{accepted-not-refused, accepted-same, outcome
 use Rattle.paths.proofs.Order.{tbio-unique, tce-unique, tt-unique}
 use Rattle.circuit.specs.Chosen.{Chosen}
 use Rattle.circuit.proofs.Unique.{chosen-unique}
-use Rattle.bounds.specs.declared.reply.Measures.{Measures}
+use Rattle.bounds_graph.specs.declared.reply.Measures.{Measures}
 use Rattle.pen.proofs.PutLaws.{series-same, put-length, put-unique}
 use Rattle.report_lines.specs.Text.{refusedLine, reportText, waitLine, waitLines, waitOf}
 use Rattle.report_lines.proofs.FitLaws.{refused-fits}
-use Rattle.report.specs.Reply.{Numbers, ReportReply, lengthOf, refused, reportBytes, reportRows, roomRows, short, textOf, written}
+use Rattle.report.specs.Reply.{ReportReply, lengthOf, refused, reportRows, roomRows, short, written}
+use Rattle.report_graph.specs.Numbers.{Numbers, reportBytes, textOf}
 use Rattle.report.specs.declared.reply.Report.{Report}
 use Rattle.report.specs.declared.reply.Report.the-variants.{Refused, Written}
 use Rattle.report.proofs.Refusals.{given-small}
-use Rattle.report.proofs.Small.{numbers-fit}
+use Rattle.report_graph.proofs.Small.{numbers-fit}
 
 -- A graph that the report goes on with is good, for look has accepted it.
 pub reported-good : {f : List ℕ} {g : Graph} → Ends f reportRows (accepted g)

@@ -1,41 +1,19 @@
 -- What report replies (document 01, "The report" and "Calls and refusals"), over look's reply.
-use mathlib.Core.Path.{_≡_}
 use mathlib.Core.List.{List, [], _∷_}
-use Prim.Native.Nat.{_<_, _≤_, ℕ}
+use Prim.Native.Nat.{_≤_, ℕ}
 use lib.ListN.{length}
 use Rattle.refusal.specs.Asking.{Ask, Given, Sound, asked}
 use Rattle.refusal.specs.declared.Refusal.{Refusal}
-use Rattle.marked.specs.Wait.{WaitSum}
 use Rattle.net.specs.Plan.{Plan}
-use Rattle.net.specs.Graph.{netOf, startOf, timesOf}
 use Rattle.reader.specs.Reply.{shown}
 use Rattle.reader.specs.Outcome.{Ends, accepted, refusal}
 use Rattle.reader.specs.declared.graph.Graph.{Graph}
-use Rattle.tbo.specs.TBO.{TBO}
-use Rattle.paths.specs.Longest.{TBIO, TCE, TT}
-use Rattle.circuit.specs.Chosen.{Chosen}
-use Rattle.bounds.specs.declared.reply.Measures.{Measures}
+use Rattle.bounds_graph.specs.declared.reply.Measures.{Measures}
 use Rattle.pen.specs.Lines.{Put}
-use Rattle.report_lines.specs.Text.{refusedLine, reportText}
+use Rattle.report_lines.specs.Text.{refusedLine}
+use Rattle.report_graph.specs.Numbers.{Numbers, reportBytes, textOf}
 use Rattle.report.specs.declared.reply.Report.{Report}
 use Rattle.report.specs.declared.reply.Report.the-variants.{Refused, Written}
-
--- The numbers of a graph's report: the bounds, the circuit that is handed out, and the wait of each transition from the starting marking.
-pub record Numbers (g : Plan) (v : Measures) (ring : List ℕ) (wait : ℕ → ℕ) : Type 0 where
-  pub tbo : TBO g (v .numerator) (v .denominator)
-  pub tbio : TBIO g (v .tbio)
-  pub tt : TT g (v .tt)
-  pub tce : TCE g (v .tce)
-  pub circuit : Chosen (netOf g) (startOf g) (timesOf g) (v .numerator) (v .denominator) ring
-  pub waits : (t : ℕ) → t < netOf g .transitions → WaitSum (netOf g) (startOf g) t (wait t)
-
--- The text of a graph's report.
-abbrev pub textOf : Plan → Measures → List ℕ → (ℕ → ℕ) → List ℕ
-textOf g v ring wait = reportText (g .operations) (g .edges) (v .numerator) (v .denominator) (v .tbio) (v .tt) (v .tce) ring wait
-
--- The bytes that a report's buffer must have. (No report is longer: theorem `report-fits-room`.)
-abbrev pub reportBytes : ℕ
-reportBytes = 4096
 
 -- What report asks before it looks at the file: 14.
 abbrev pub roomRows : List ℕ → List Ask

@@ -1,13 +1,11 @@
 // `report`: the text of a file's report, in a lent buffer.
-mod answer;
 pub mod reply;
-mod waits;
 
-use answer::answer;
 use reader::look;
 use refusal::Refusal;
 use refusal::Verdict;
 use reply::Report;
+use report_graph::answer::answer;
 use report_lines::write_refused;
 ghost use Rattle.report.specs.Reply.{ReportReply};
 

@@ -3,9 +3,9 @@ use mathlib.Core.Path.{_≡_, ap, sym}
 use mathlib.Core.List.{List, [], _∷_}
 use Prim.Native.Nat.{ℕ}
 use Rattle.refusal.specs.declared.Refusal.{Refusal}
-use Rattle.bounds.specs.declared.reply.Bounds.{Bounds}
-use Rattle.bounds.specs.declared.reply.Bounds.the-variants.{Bounded, Refused}
-use Rattle.bounds.specs.declared.reply.Measures.{Measures}
+use Rattle.bounds_graph.specs.declared.reply.Bounds.{Bounds}
+use Rattle.bounds_graph.specs.declared.reply.Bounds.the-variants.{Bounded, Refused}
+use Rattle.bounds_graph.specs.declared.reply.Measures.{Measures}
 use Rattle.amg.specs.Tables.{valuesIn}
 use borrow.Author.Needs.{needs}
 use Rattle.amg.proofs.amg_bounds.Statement.{statement}

@@ -2,11 +2,11 @@
 use mathlib.Core.List.{List}
 use Prim.Native.Nat.{ℕ}
 use Rattle.net.specs.Plan.{Plan}
-use Rattle.bounds.specs.Rows.{Roomy}
-use Rattle.bounds.specs.Reply.{BoundsOf}
-use Rattle.bounds.specs.declared.reply.Bounds.{Bounds}
-use Rattle.bounds.specs.declared.reply.Bounds.the-variants.{Bounded, Refused}
-use Rattle.bounds.specs.declared.reply.Measures.{Measures}
+use Rattle.bounds_graph.specs.Rows.{Roomy}
+use Rattle.bounds_graph.specs.Measured.{BoundsOf}
+use Rattle.bounds_graph.specs.declared.reply.Bounds.{Bounds}
+use Rattle.bounds_graph.specs.declared.reply.Bounds.the-variants.{Bounded, Refused}
+use Rattle.bounds_graph.specs.declared.reply.Measures.{Measures}
 
 -- The reply for a graph that look has accepted.
 pub data BoundsAnswered (g : Plan) (before : List ℕ) : Bounds → List ℕ → Type 0 where

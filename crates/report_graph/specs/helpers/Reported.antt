@@ -2,9 +2,9 @@
 use mathlib.Core.List.{List}
 use Prim.Native.Nat.{ℕ}
 use Rattle.net.specs.Plan.{Plan}
-use Rattle.bounds.specs.declared.reply.Measures.{Measures}
+use Rattle.bounds_graph.specs.declared.reply.Measures.{Measures}
 use Rattle.pen.specs.Lines.{Put}
-use Rattle.report.specs.Reply.{Numbers, textOf}
+use Rattle.report_graph.specs.Numbers.{Numbers, textOf}
 
 -- The report of the graph now stands in the first len bytes of the buffer.
 pub record Reported (g : Plan) (before : List ℕ) (len : ℕ) (after : List ℕ) : Type 0 where

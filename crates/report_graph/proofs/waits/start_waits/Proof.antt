@@ -5,9 +5,9 @@ use native.Mathlib.Omega.{arith}
 use borrow.Author.Needs.{needs}
 use lib.ListN.{length}
 use lib.ListN.{length-set}
-use Rattle.report.proofs.Waiting.{Summing, summing-more, summing-none, summing-waited}
-use Rattle.report.proofs.waits.start_waits.Statement.{statement}
-use Rattle.report.proofs.waits.start_waits.Tie as tie
+use Rattle.report_graph.proofs.Waiting.{Summing, summing-more, summing-none, summing-waited}
+use Rattle.report_graph.proofs.waits.start_waits.Statement.{statement}
+use Rattle.report_graph.proofs.waits.start_waits.Tie as tie
 
 abbrev Inv-loop : tie.InvT-loop
 Inv-loop n e from to mark waits₀ marking t₀ waits t = (t ≤ 3 * n + 2) × (length waits ≡ length waits₀) × Summing n e from to marking t waits

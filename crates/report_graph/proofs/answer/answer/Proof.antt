@@ -2,10 +2,10 @@
 use native.Mathlib.Omega.{arith}
 use denote.Ref.{now}
 use Rattle.net.specs.Good.{Good}
-use Rattle.report.proofs.Answers.{bounds-numbers, ring-count, ring-within, ring-writable}
+use Rattle.report_graph.proofs.Answers.{bounds-numbers, ring-count, ring-within, ring-writable}
 use borrow.Author.Needs.{needs}
-use Rattle.report.proofs.answer.answer.Statement.{statement}
-use Rattle.report.proofs.answer.answer.Tie as tie
+use Rattle.report_graph.proofs.answer.answer.Statement.{statement}
+use Rattle.report_graph.proofs.answer.answer.Tie as tie
 
 -- Where the waits are there, from where the bounds are.
 abbrev at-waits : tie.After-measure → tie.After-start-waits

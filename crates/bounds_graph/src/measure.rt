@@ -14,7 +14,7 @@ ghost use Prim.Native.Nat.{_+_, _*_, _≤_};
 ghost use lib.ListN.{length};
 ghost use Rattle.net.specs.Plan.{rows};
 ghost use Rattle.net.specs.Good.{Good};
-ghost use Rattle.bounds.specs.Reply.{BoundsOf};
+ghost use Rattle.bounds_graph.specs.Measured.{BoundsOf};
 
 // The pair that `largest` finds is the time and the tokens of a closed walk: the certificate in d is for that pair, and only the reply is in lowest terms.
 pub fn measure<'a>(

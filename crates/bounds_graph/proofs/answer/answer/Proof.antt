@@ -1,9 +1,9 @@
 -- Row 14, then the bounds as they are measured.
-use Rattle.bounds.specs.helpers.Answered.{bounded, refused}
+use Rattle.bounds_graph.specs.helpers.Answered.{bounded, refused}
 use native.Mathlib.Omega.{arith}
 use borrow.Author.Needs.{needs}
-use Rattle.bounds.proofs.answer.answer.Statement.{statement}
-use Rattle.bounds.proofs.answer.answer.Tie as tie
+use Rattle.bounds_graph.proofs.answer.answer.Statement.{statement}
+use Rattle.bounds_graph.proofs.answer.answer.Tie as tie
 
 mul-if1 : tie.Need-mul-if1
 mul-if1 c = search needs

@@ -12,7 +12,7 @@ use Rattle.marked.proofs.Demand.{wait-sum-same}
 use Rattle.net.specs.Plan.{wires}
 use Rattle.net.specs.Graph.{netOf}
 use Rattle.net.specs.helpers.Start.{Started}
-use Rattle.report.specs.helpers.Waited.{Waited}
+use Rattle.report_graph.specs.helpers.Waited.{Waited}
 
 -- The first k entries are the waits of their transitions.
 pub record Summing (n e : ℕ) (from to marking : List ℕ) (k : ℕ) (waits : List ℕ) : Type 0 where

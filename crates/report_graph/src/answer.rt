@@ -1,6 +1,6 @@
 // The report of a graph that look has accepted, where it has room: its waits, its bounds and the text.
 use crate::waits::start_waits;
-use bounds::measure::measure;
+use bounds_graph::measure::measure;
 use net::EDGES;
 use net::OPERATIONS;
 use net::TRANSITIONS;
@@ -9,8 +9,8 @@ ghost use Prim.Native.Nat.{_≤_};
 ghost use lib.ListN.{length};
 ghost use Rattle.net.specs.Plan.{rows};
 ghost use Rattle.net.specs.Good.{Good};
-ghost use Rattle.report.specs.Reply.{reportBytes};
-ghost use Rattle.report.specs.helpers.Reported.{Reported};
+ghost use Rattle.report_graph.specs.Numbers.{reportBytes};
+ghost use Rattle.report_graph.specs.helpers.Reported.{Reported};
 
 // The answer is the text's length.
 pub fn answer<'a>(

@@ -6,7 +6,7 @@ use net::OPERATIONS;
 use refusal::Refusal;
 ghost use Rattle.net.specs.Plan.{rows};
 ghost use Rattle.net.specs.Good.{Good};
-ghost use Rattle.bounds.specs.helpers.Answered.{BoundsAnswered};
+ghost use Rattle.bounds_graph.specs.helpers.Answered.{BoundsAnswered};
 
 pub fn answer<'a>(
     n: usize,

@@ -24,8 +24,8 @@ use Rattle.tbo.specs.helpers.LargestBy.{LargestBy}
 use Rattle.circuit.specs.Chosen.{Handed}
 use Rattle.circuit.proofs.Alike.{handed-alike}
 use Rattle.circuit.proofs.Unique.{handed-same}
-use Rattle.bounds.specs.Reply.{BoundsOf}
-use Rattle.bounds.specs.declared.reply.Measures.{Measures}
+use Rattle.bounds_graph.specs.Measured.{BoundsOf}
+use Rattle.bounds_graph.specs.declared.reply.Measures.{Measures}
 
 module _
     {n e : ℕ} {times from to mark buffers room marking spans : List ℕ} (good : Good n e times from to mark buffers)

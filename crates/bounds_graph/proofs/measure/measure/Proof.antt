@@ -1,9 +1,9 @@
 -- The two arrays are the computational graph's (`lent-weighted`); each part as its own call tells it is put together by `bounds-of`.
-use Rattle.bounds.proofs.Lending.{bounds-of, lent-live, lent-weighted}
+use Rattle.bounds_graph.proofs.Lending.{bounds-of, lent-live, lent-weighted}
 use mathlib.Core.Path.{refl}
 use borrow.Author.Needs.{needs}
-use Rattle.bounds.proofs.measure.measure.Statement.{statement}
-use Rattle.bounds.proofs.measure.measure.Tie as tie
+use Rattle.bounds_graph.proofs.measure.measure.Statement.{statement}
+use Rattle.bounds_graph.proofs.measure.measure.Tie as tie
 
 slice-aggregate-start-marking : tie.Need-slice-aggregate-start-marking
 slice-aggregate-start-marking c = search needs

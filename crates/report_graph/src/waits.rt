@@ -3,7 +3,7 @@ use net::EDGES;
 use net::PLACES;
 use net::start::start_marking;
 use waiting_graph::sum::wait_sum;
-ghost use Rattle.report.specs.helpers.Waited.{Waited, WaitsAsk};
+ghost use Rattle.report_graph.specs.helpers.Waited.{Waited, WaitsAsk};
 
 pub fn start_waits<'a>(
     n: usize,

@@ -12,12 +12,12 @@ use Rattle.net.specs.Plan.{rows}
 use Rattle.net.specs.Graph.{netOf}
 use Rattle.net.specs.Good.{Good}
 use Rattle.net.proofs.Shapes.{wired-proper}
-use Rattle.bounds.specs.Reply.{BoundsOf}
-use Rattle.bounds.specs.declared.reply.Measures.{Measures}
+use Rattle.bounds_graph.specs.Measured.{BoundsOf}
+use Rattle.bounds_graph.specs.declared.reply.Measures.{Measures}
 use Rattle.report_lines.specs.helpers.Limits.{Writable}
-use Rattle.report.specs.Reply.{Numbers, reportBytes}
-use Rattle.report.specs.helpers.Waited.{Waited}
-use Rattle.report.proofs.Small.{tbo-small}
+use Rattle.report_graph.specs.Numbers.{Numbers, reportBytes}
+use Rattle.report_graph.specs.helpers.Waited.{Waited}
+use Rattle.report_graph.proofs.Small.{tbo-small}
 
 module _
     {n e : ℕ} {times from to mark buffers : List ℕ} (ok : Good n e times from to mark buffers) {before after : List ℕ} {v : Measures}

@@ -1,0 +1,3 @@
+pub mod Waiting
+pub mod Small
+pub mod Answers

@@ -1,0 +1,3 @@
+// The report of a graph that look has accepted, over its rows.
+pub mod answer;
+mod waits;
