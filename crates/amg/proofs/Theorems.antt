@@ -17,9 +17,9 @@ use Rattle.bounds_graph.specs.declared.reply.Bounds.{Bounds}
 use Rattle.bounds.proofs.Theorems.{bounds-label-blind}
 use Rattle.report.proofs.Theorems.{report-label-blind}
 use Rattle.amg.specs.Calls.{BoundsCall, LookCall, ReportCall, RunCall, StartCall, StepCall, ToldBy, WaitCall}
-use Rattle.amg.specs.Numbers.{waitCount, waitRefusal}
+use Rattle.amg_word.specs.Numbers.{waitCount, waitRefusal}
 use Rattle.amg.specs.Tables.{Tables, shownIn, valuesIn}
-use Rattle.amg.specs.Word.{mostCount, packed}
+use Rattle.amg_word.specs.Word.{mostCount, packed}
 
 -- where two contracts allow one reply only, they allow one word only
 same-word : {A : Type 0} {wordOf : A → ℕ} {P Q : A → Type 0} {v w : ℕ} (s : ToldBy wordOf P v) (t : ToldBy wordOf Q w) → s .reply ≡ t .reply → v ≡ w

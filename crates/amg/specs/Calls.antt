@@ -17,8 +17,8 @@ use Rattle.bounds.specs.Reply.{BoundsReply}
 use Rattle.report.specs.declared.reply.Report.{Report}
 use Rattle.report.specs.Reply.{ReportReply}
 use Rattle.amg.specs.Tables.{Tables, shownIn, valuesIn}
-use Rattle.amg.specs.Numbers.{boundsCount, boundsRefusal, reportCount, reportRefusal, waitCount, waitRefusal}
-use Rattle.amg.specs.Word.{packed}
+use Rattle.amg_word.specs.Numbers.{boundsCount, boundsRefusal, reportCount, reportRefusal, waitCount, waitRefusal}
+use Rattle.amg_word.specs.Word.{packed}
 
 -- The word w tells a reply that the call's contract allows.
 pub record ToldBy {A : Type 0} (wordOf : A → ℕ) (May : A → Type 0) (w : ℕ) : Type 0 where

@@ -1,4 +1,2 @@
 pub mod Calls
-pub mod Numbers
 pub mod Tables
-pub mod Word

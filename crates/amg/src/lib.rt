@@ -1,7 +1,9 @@
 // The calls for C and for Rust, declared in include/amg.h. Each makes one call of the crates below, and its word tells that call's reply.
-mod numbers;
-mod word;
 
+use amg_word::word::bounds_word;
+use amg_word::word::pack;
+use amg_word::word::report_word;
+use amg_word::word::wait_word;
 use bounds_graph::reply::Bounds;
 use net::EDGES;
 use net::OPERATIONS;
@@ -10,10 +12,6 @@ use refusal::refusal_of;
 use stepping_graph::reply::end_refusal;
 use stepping_graph::reply::start_refusal;
 use stepping_graph::reply::step_refusal;
-use word::bounds_word;
-use word::pack;
-use word::report_word;
-use word::wait_word;
 ghost use Rattle.amg.specs.Calls.{BoundsCall, LookCall, ReportCall, RunCall, StartCall, StepCall, WaitCall};
 ghost use Rattle.amg.specs.Tables.{tables};
 

@@ -11,7 +11,7 @@ use Rattle.net.specs.Good.{Good}
 use Rattle.reader.specs.declared.graph.Graph.{Graph}
 use Rattle.reader.proofs.Accepting.{accepted-good}
 use Rattle.amg.specs.Tables.{Tables, shownIn, tables}
-use Rattle.amg.specs.Word.{packed}
+use Rattle.amg_word.specs.Word.{packed}
 use borrow.Author.Needs.{needs}
 use Rattle.amg.proofs.amg_look.Statement.{statement}
 use Rattle.amg.proofs.amg_look.Tie as tie

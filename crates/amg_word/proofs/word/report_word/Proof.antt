@@ -1,9 +1,9 @@
 -- The word of a report: its refusal, and the text's length.
 use mathlib.Core.Path.{_∙_}
-use Rattle.amg.specs.Word.{packed}
+use Rattle.amg_word.specs.Word.{packed}
 use borrow.Author.Needs.{needs}
-use Rattle.amg.proofs.word.report_word.Statement.{statement}
-use Rattle.amg.proofs.word.report_word.Tie as tie
+use Rattle.amg_word.proofs.word.report_word.Statement.{statement}
+use Rattle.amg_word.proofs.word.report_word.Tie as tie
 
 length-requires : tie.Need-length-requires
 length-requires c κs = search needs

@@ -1,9 +1,9 @@
 -- The word of a wait: its refusal, and the wait.
 use mathlib.Core.Path.{_∙_}
-use Rattle.amg.specs.Word.{packed}
+use Rattle.amg_word.specs.Word.{packed}
 use borrow.Author.Needs.{needs}
-use Rattle.amg.proofs.word.wait_word.Statement.{statement}
-use Rattle.amg.proofs.word.wait_word.Tie as tie
+use Rattle.amg_word.proofs.word.wait_word.Statement.{statement}
+use Rattle.amg_word.proofs.word.wait_word.Tie as tie
 
 wait-count-requires : tie.Need-wait-count-requires
 wait-count-requires c κs = search needs

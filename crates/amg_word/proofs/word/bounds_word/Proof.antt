@@ -1,9 +1,9 @@
 -- The word of bounds: its refusal, and the circuit's length.
 use mathlib.Core.Path.{_∙_}
-use Rattle.amg.specs.Word.{packed}
+use Rattle.amg_word.specs.Word.{packed}
 use borrow.Author.Needs.{needs}
-use Rattle.amg.proofs.word.bounds_word.Statement.{statement}
-use Rattle.amg.proofs.word.bounds_word.Tie as tie
+use Rattle.amg_word.proofs.word.bounds_word.Statement.{statement}
+use Rattle.amg_word.proofs.word.bounds_word.Tie as tie
 
 bounds-count-requires : tie.Need-bounds-count-requires
 bounds-count-requires c κs = search needs

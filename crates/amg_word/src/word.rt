@@ -7,8 +7,8 @@ use report::reply::Report;
 use waiting_graph::reply::Wait;
 ghost use mathlib.Core.Path.{_≡_};
 ghost use Prim.Native.Nat.{min};
-ghost use Rattle.amg.specs.Numbers.{boundsCount, boundsRefusal, reportCount, reportRefusal, waitCount, waitRefusal};
-ghost use Rattle.amg.specs.Word.{mostCount, packed};
+ghost use Rattle.amg_word.specs.Numbers.{boundsCount, boundsRefusal, reportCount, reportRefusal, waitCount, waitRefusal};
+ghost use Rattle.amg_word.specs.Word.{mostCount, packed};
 
 // The most that the count's 24 bits can tell: it stands for itself and all above.
 const MOST: u64 = 16777215;

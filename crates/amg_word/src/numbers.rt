@@ -5,7 +5,7 @@ use refusal::none;
 use report::reply::Report;
 use waiting_graph::reply::Wait;
 ghost use mathlib.Core.Path.{_≡_};
-ghost use Rattle.amg.specs.Numbers.{boundsCount, boundsRefusal, reportRefusal, waitCount, waitRefusal};
+ghost use Rattle.amg_word.specs.Numbers.{boundsCount, boundsRefusal, reportRefusal, waitCount, waitRefusal};
 
 pub fn wait_refusal(reply: Wait) -> Refusal
     ensures { λ r. ⌜ r ≡ waitRefusal reply ⌝ }
