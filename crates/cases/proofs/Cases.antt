@@ -8,8 +8,8 @@ use Rattle.net.specs.Ends.{dstOf, srcOf, startAt, timeOf}
 use Rattle.file.specs.File.{backOf, edgeByte, edgesAt, edgesOf, operationsAt, operationsOf, operationTime, trailerAt}
 use Rattle.reader.proofs.Total.{look-total, lookOf}
 use Rattle.paths.specs.Modified.{nodeTime}
-use Rattle.pen.specs.Digits.{digits, digitsBy}
-use Rattle.pen.specs.Lines.{item, itemLine, lineEnd, pairLine}
+use Rattle.pen_put.specs.Digits.{digits, digitsBy}
+use Rattle.pen_put.specs.Lines.{item, itemLine, lineEnd, pairLine}
 use Rattle.report_lines.specs.Text.{boundLines, circuitLine, headText, opsLine, reportText, ringPlaces, waitLines}
 use Rattle.cases.specs.Files.{fileOf}
 use Rattle.cases.specs.Table.{Case, P1-to-P10, True, case, table}

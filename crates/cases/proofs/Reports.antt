@@ -9,7 +9,7 @@ use Rattle.marked.specs.Net.{at}
 use Rattle.marked.proofs.Decide.{both?, eq?, le?, same?}
 use Rattle.net.specs.Plan.{Plan}
 use Rattle.paths.specs.Longest.{DataSink, Sink, TBIO, TT, effort}
-use Rattle.pen.specs.Lines.{Put}
+use Rattle.pen_put.specs.Lines.{Put}
 use Rattle.bounds_graph.specs.declared.reply.Measures.{Measures}
 use Rattle.report_graph.specs.Numbers.{Numbers}
 use Rattle.report.proofs.Demand.{sets-front}

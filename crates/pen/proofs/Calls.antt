@@ -14,8 +14,9 @@ use Rattle.pen.proofs.Logic.{NamedLft, RattleType, MutSlice, ShrSlice, 
 use Rattle.pen.proofs.Logic.{ensured, lasts, says}
 use denote.Struct.Laws as LL
 use Rattle.pen.specs.declared.Writer.{Writer}
-use Rattle.pen.specs.Digits.{digits}
-use Rattle.pen.specs.Lines.{HasRoom, wrote, lineEnd}
+use Rattle.pen_put.specs.Digits.{digits}
+use Rattle.pen_put.specs.Lines.{HasRoom, lineEnd}
+use Rattle.pen.specs.Wrote.{wrote}
 use Rattle.pen.proofs.Writer as T
 use Rattle.pen.proofs.Writer.Laws as T′
 use Rattle.pen.proofs.Lent.{slice}

@@ -10,7 +10,7 @@ use Rattle.pen.proofs.Logic.{join, pick, learn, fsplit, fjoin, feqL, re
 use Rattle.pen.proofs.Logic.{usize, RefT, NamedLft, sliceVal, MutSlice, Room, finally, all-own, own-open, only, owned, peeks, heard, nothing, makes, Contract}
 use Rattle.pen.proofs.Logic.{Triple, calls-at, says}
 use types.Kit.{Step, step, Goal}
-use Rattle.pen.specs.Lines.{HasRoom, Put}
+use Rattle.pen_put.specs.Lines.{HasRoom, Put}
 use Rattle.pen.proofs.Writer as T
 use Rattle.pen.proofs.Writer.Laws as T′
 use Rattle.pen.proofs.Again.{LentAgain, lends-again, comes-back}

@@ -1,8 +1,7 @@
 -- The laws and walks of the pen, lowest first.
 pub mod Logic
 pub mod Walks
-pub mod DigitLaws
-pub mod PutLaws
+pub mod Wrote
 pub mod Again
 pub mod Held
 pub mod Lent

@@ -3,7 +3,7 @@ use Prim.Native.Nat.{ℕ}
 use mathlib.Core.List.{List, _++_}
 use lib.ListN.{length, getD}
 use Rattle.little.specs.Text.{bytes}
-use Rattle.pen.specs.Lines.{lineEnd, item, itemLine, pairLine, series}
+use Rattle.pen_put.specs.Lines.{lineEnd, item, itemLine, pairLine, series}
 
 -- a number of the list behind a blank
 abbrev pub blankItem : List ℕ → ℕ → List ℕ

@@ -1,6 +1,6 @@
 // Shows the pen at work: lines from the smallest number to the largest, put together as a report's are.
 use libc::STDOUT_FILENO;
-ghost use Rattle.pen.specs.Lines.{HasRoom, Put};
+ghost use Rattle.pen_put.specs.Lines.{HasRoom, Put};
 ghost use Rattle.pen_main.specs.Page.{numberRow, page};
 
 // Each number behind a blank: a loop over the pen.
@@ -24,7 +24,7 @@ fn put_page(buf: &mut [u8], at: usize, ns: &[u64]) -> usize
 {
     let a = pen::item_line(buf, at, b"TCE ", 0);
     let b = pen::pair_line(buf, a, b"TBO ", 18446744073709551615, b"/", 10);
-    let c = pen::put_word(buf, b, b"circuit");
+    let c = pen_put::put_word(buf, b, b"circuit");
     let d = put_row(buf, c, ns);
     pen::end_line(buf, d)
 }

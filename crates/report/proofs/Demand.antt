@@ -6,7 +6,7 @@ use native.Mathlib.Omega.{arith}
 use lib.ListN.{drop, length, take}
 use lib.Seq.{sets, sets-eq, take-at}
 use Rattle.marked.proofs.Demand.{waits-unique}
-use Rattle.pen.specs.Lines.{Put}
+use Rattle.pen_put.specs.Lines.{Put}
 use Rattle.report_lines.specs.Text.{headText, reportText}
 use Rattle.report.specs.Demand.{WaitsPrinted}
 use Rattle.report.specs.Reply.{ReportReply, written}

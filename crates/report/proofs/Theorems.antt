@@ -25,7 +25,7 @@ use Rattle.paths.proofs.Order.{tbio-unique, tce-unique, tt-unique}
 use Rattle.circuit.specs.Chosen.{Chosen}
 use Rattle.circuit.proofs.Unique.{chosen-unique}
 use Rattle.bounds_graph.specs.declared.reply.Measures.{Measures}
-use Rattle.pen.proofs.PutLaws.{series-same, put-length, put-unique}
+use Rattle.pen_put.proofs.PutLaws.{series-same, put-length, put-unique}
 use Rattle.report_lines.specs.Text.{refusedLine, reportText, waitLine, waitLines, waitOf}
 use Rattle.report_lines.proofs.FitLaws.{refused-fits}
 use Rattle.report.specs.Reply.{ReportReply, lengthOf, refused, reportRows, roomRows, short, written}

@@ -4,8 +4,8 @@ use Prim.Native.Nat.{ℕ}
 use mathlib.Core.List.{List, [], _∷_, _++_}
 use Rattle.marked.specs.Net.{at}
 use Rattle.little.specs.Text.{bytes}
-use Rattle.pen.specs.Digits.{digitsBy, digits}
-use Rattle.pen.specs.Lines.{lineEnd, item, itemLine, pairLine}
+use Rattle.pen_put.specs.Digits.{digitsBy, digits}
+use Rattle.pen_put.specs.Lines.{lineEnd, item, itemLine, pairLine}
 use Rattle.report_lines.specs.Text.{opsLine, boundLines, ringPlaces, circuitLine, headText, waitLines, reportText, refusedLine}
 
 abbrev pub one : List ℕ

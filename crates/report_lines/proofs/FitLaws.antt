@@ -4,8 +4,8 @@ use native.Mathlib.Omega.{arith}
 use mathlib.Core.List.{List}
 use lib.ListN.{length, length-append}
 use Rattle.marked.specs.Net.{at}
-use Rattle.pen.specs.Lines.{HasRoom, lineEnd, item, itemLine, pairLine, series}
-use Rattle.pen.proofs.DigitLaws.{digits-short}
+use Rattle.pen_put.specs.Lines.{HasRoom, lineEnd, item, itemLine, pairLine, series}
+use Rattle.pen_put.proofs.DigitLaws.{digits-short}
 use Rattle.report_lines.specs.Words.{opsWord, edgesWord, transitionsWord, placesWord, tboWord, slashWord, tbioWord, ttWord, tceWord, blankWord, waitWord, refusedWord, atWord}
 use Rattle.report_lines.specs.Text.{opsLine, boundLines, ringPlace, ringPlaces, circuitLine, headText, waitOf, waitLines, reportText, refusedLine}
 use Rattle.report_lines.specs.helpers.Limits.{CountsFit, Printable, Writable}

@@ -3,7 +3,7 @@ use Prim.Native.Nat.{ℕ, _+_, _*_}
 use mathlib.Core.List.{List, _++_}
 use lib.ListN.{length}
 use Rattle.marked.specs.Net.{at}
-use Rattle.pen.specs.Lines.{lineEnd, item, itemLine, pairLine, series}
+use Rattle.pen_put.specs.Lines.{lineEnd, item, itemLine, pairLine, series}
 use Rattle.report_lines.specs.Words.{opsWord, edgesWord, transitionsWord, placesWord, tboWord, slashWord, tbioWord, ttWord, tceWord}
 use Rattle.report_lines.specs.Words.{circuitWord, blankWord, waitWord, refusedWord, atWord}
 

@@ -1,5 +1,5 @@
 // The lines before the waits, over plain values: one function a line, each written behind the last into the lent buffer.
-ghost use Rattle.pen.specs.Lines.{HasRoom, Put, item};
+ghost use Rattle.pen_put.specs.Lines.{HasRoom, Put, item};
 ghost use Rattle.report_lines.specs.Words.{blankWord};
 ghost use Rattle.report_lines.specs.Text.{opsLine, boundLines, ringPlaces, circuitLine, headText};
 ghost use Rattle.report_lines.specs.helpers.Limits.{CountsFit};
@@ -60,7 +60,7 @@ fn circuit_line(buf: &mut [u8], at: usize, ring: &[u16]) -> usize
     requires { ⌜ HasRoom (now buf) at (circuitLine (now ring)) ⌝ }
     ensures { λ r. ⌜ Put (now (buf .entry)) at (circuitLine (now (ring .entry))) (now (buf .exit)) r ⌝ }
 {
-    let ring_at = pen::put_word(buf, at, b"circuit");
+    let ring_at = pen_put::put_word(buf, at, b"circuit");
     let end = ring_places(buf, ring_at, ring);
     pen::end_line(buf, end)
 }

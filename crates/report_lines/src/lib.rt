@@ -7,7 +7,7 @@ use waits::wait_lines;
 ghost use Prim.Native.Nat.{_≤_};
 ghost use lib.ListN.{length};
 ghost use Rattle.marked.specs.Net.{at};
-ghost use Rattle.pen.specs.Lines.{Put};
+ghost use Rattle.pen_put.specs.Lines.{Put};
 ghost use Rattle.report_lines.specs.Text.{reportText, refusedLine};
 ghost use Rattle.report_lines.specs.helpers.Limits.{Writable};
 

@@ -1,7 +1,7 @@
 // The lines of the waits, one a transition.
 ghost use Prim.Native.Nat.{_+_, _*_, _≤_};
 ghost use lib.ListN.{length, getD};
-ghost use Rattle.pen.specs.Lines.{HasRoom, Put};
+ghost use Rattle.pen_put.specs.Lines.{HasRoom, Put};
 ghost use Rattle.report_lines.specs.Text.{waitLine, waitLines};
 
 // A transition and its wait, as `wait 4 8`.

@@ -6,8 +6,10 @@ use Rattle.pen.proofs.Logic.{whole, sub, look-in, fmOf, owns, uint-vals
 use Rattle.pen.proofs.Logic.{Meets, tripleOf, Triple, entered, cited, says, needs, Stays, stay-dropped, gave-slice, goes-dropped, goes-gave-slice, ends-at}
 use Rattle.pen.proofs.Logic.{yes, plain}
 use Rattle.pen.specs.declared.Writer.{Writer}
-use Rattle.pen.specs.Lines.{HasRoom, wrote, lineEnd}
-use Rattle.pen.proofs.PutLaws.{wrote-put, put-length}
+use Rattle.pen_put.specs.Lines.{HasRoom, lineEnd}
+use Rattle.pen.specs.Wrote.{wrote}
+use Rattle.pen_put.proofs.PutLaws.{put-length}
+use Rattle.pen.proofs.Wrote.{wrote-put}
 use Rattle.pen.proofs.Walks.{by-walk, var, free-at}
 use Rattle.pen.proofs.Lent.{slice}
 use Rattle.pen.proofs.Calls.{Resume, Newline, Fill, resume-call, newline-call, fill-call}

@@ -1,7 +1,7 @@
 -- Two puts, one behind the other: an item, then a line end.
 use borrow.Author.Needs.{needs}
-use Rattle.pen.proofs.PutLaws.{first-room, then-room, then-put}
-use Rattle.pen.specs.Lines.{itemLine}
+use Rattle.pen_put.proofs.PutLaws.{first-room, then-room, then-put}
+use Rattle.pen_put.specs.Lines.{itemLine}
 use Rattle.pen.proofs.item_line.Statement.{statement}
 use Rattle.pen.proofs.item_line.Tie as tie
 

@@ -4,14 +4,14 @@ use Rattle.pen.proofs.Logic.{Fun, givenOf, tables, tablesOf, Given, ‵
 use Rattle.pen.proofs.Logic.{look, init, stop, hop, fld, from, load, addr, of-opd, and-then, no-more, assigns, land, returns, enter, alloc1, alloc0, params1}
 use Rattle.pen.proofs.Logic.{pass1, pass0, free0, agg, whole, sub, look-in, store-in, fmOf, owns, nothing, Meets, tripleOf, Contract, Triple, entered, cited}
 use Rattle.pen.proofs.Logic.{says, needs, Stays, ends-at, namedLft}
-use Rattle.pen.specs.Lines.{HasRoom, lineEnd}
+use Rattle.pen_put.specs.Lines.{HasRoom, lineEnd}
 use Rattle.pen.proofs.Writer as T
 use Rattle.pen.proofs.Walks.{by-walk, var, free-at}
 use Rattle.pen.proofs.Held.{writer-spent, writer-spent-goes, writer-vals, writer-tells, writer-owed, writer-typed}
 use Rattle.pen.proofs.Lent.{slice, mach, under, opens, put-call, shuts}
-use Rattle.pen.proofs.put_newline as put-newline
-use Rattle.pen.proofs.put_newline.Symbol as put-newline-def
-use Rattle.pen.proofs.put_newline.Met as put-newline-thm
+use Rattle.pen_put.proofs.put_newline as put-newline
+use Rattle.pen_put.proofs.put_newline.Symbol as put-newline-def
+use Rattle.pen_put.proofs.put_newline.Met as put-newline-thm
 use Rattle.pen.proofs.newline.Key.{name as #pen·newline}
 use Rattle.pen.proofs.newline as newline
 use Rattle.pen.proofs.newline.Statement as stated
@@ -63,4 +63,4 @@ newline-spec 𝓤 H 𝓜 𝓖 𝓡 =
     entered 𝓤 H (tripleOf 𝓤 H (𝓖 .A) newline.signature (newline.spec 𝓤 H (𝓖 .A) (𝓜 .mem) (𝓡 .run)))
     (tables 𝓤 H 𝓜 𝓡 code.env .C) (tables 𝓤 H 𝓜 𝓡 code.env .Λ) #pen·newline code.function (code.unfolded 𝓤 H 𝓜 𝓡)
     (newline-meets 𝓤 H (𝓖 .A) (givenOf 𝓤 H 𝓜 𝓖) (𝓜 .mem) (𝓡 .run) (tablesOf 𝓤 H 𝓜 (tables 𝓤 H 𝓜 𝓡 code.env))
-    (cited 𝓤 H (PutNewline 𝓤 H (𝓖 .A) (𝓜 .mem) (𝓡 .run)) 𝓜 𝓡 code.env put-newline-def.name put-newline-def.routine code.calls-pen·put-newline (put-newline-thm.met 𝓤 H 𝓜 𝓖 𝓡)))
+    (cited 𝓤 H (PutNewline 𝓤 H (𝓖 .A) (𝓜 .mem) (𝓡 .run)) 𝓜 𝓡 code.env put-newline-def.name put-newline-def.routine code.calls-pen-put·put-newline (put-newline-thm.met 𝓤 H 𝓜 𝓖 𝓡)))

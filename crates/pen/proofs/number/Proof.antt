@@ -4,15 +4,15 @@ use Rattle.pen.proofs.Logic.{Fun, givenOf, tables, tablesOf, Given, ‵
 use Rattle.pen.proofs.Logic.{look, init, stop, hop, fld, from, load, addr, of-opd, and-then, no-more, assigns, land, returns, enter, alloc1, alloc0, params1}
 use Rattle.pen.proofs.Logic.{pass1, pass0, free0, agg, whole, sub, look-in, store-in, fmOf, owns, nothing, Meets, tripleOf, Contract, Triple, entered, cited}
 use Rattle.pen.proofs.Logic.{says, needs, Stays, ends-at, namedLft, u64, stay-dropped, goes-dropped, yes, plain, uint-vals, uint-tells}
-use Rattle.pen.specs.Digits.{digits}
-use Rattle.pen.specs.Lines.{HasRoom}
+use Rattle.pen_put.specs.Digits.{digits}
+use Rattle.pen_put.specs.Lines.{HasRoom}
 use Rattle.pen.proofs.Writer as T
 use Rattle.pen.proofs.Walks.{by-walk, var, free-at}
 use Rattle.pen.proofs.Held.{writer-spent, writer-spent-goes, writer-vals, writer-tells, writer-owed, writer-typed}
 use Rattle.pen.proofs.Lent.{slice, mach, under, opens, put-call, shuts}
-use Rattle.pen.proofs.put_number as put-number
-use Rattle.pen.proofs.put_number.Symbol as put-number-def
-use Rattle.pen.proofs.put_number.Met as put-number-thm
+use Rattle.pen_put.proofs.put_number as put-number
+use Rattle.pen_put.proofs.put_number.Symbol as put-number-def
+use Rattle.pen_put.proofs.put_number.Met as put-number-thm
 use Rattle.pen.proofs.number.Key.{name as #pen·number}
 use Rattle.pen.proofs.number as number
 use Rattle.pen.proofs.number.Statement as stated
@@ -65,4 +65,4 @@ number-spec 𝓤 H 𝓜 𝓖 𝓡 =
     entered 𝓤 H (tripleOf 𝓤 H (𝓖 .A) number.signature (number.spec 𝓤 H (𝓖 .A) (𝓜 .mem) (𝓡 .run)))
     (tables 𝓤 H 𝓜 𝓡 code.env .C) (tables 𝓤 H 𝓜 𝓡 code.env .Λ) #pen·number code.function (code.unfolded 𝓤 H 𝓜 𝓡)
     (number-meets 𝓤 H (𝓖 .A) (givenOf 𝓤 H 𝓜 𝓖) (𝓜 .mem) (𝓡 .run) (tablesOf 𝓤 H 𝓜 (tables 𝓤 H 𝓜 𝓡 code.env))
-    (cited 𝓤 H (PutNumber 𝓤 H (𝓖 .A) (𝓜 .mem) (𝓡 .run)) 𝓜 𝓡 code.env put-number-def.name put-number-def.routine code.calls-pen·put-number (put-number-thm.met 𝓤 H 𝓜 𝓖 𝓡)))
+    (cited 𝓤 H (PutNumber 𝓤 H (𝓖 .A) (𝓜 .mem) (𝓡 .run)) 𝓜 𝓡 code.env put-number-def.name put-number-def.routine code.calls-pen-put·put-number (put-number-thm.met 𝓤 H 𝓜 𝓖 𝓡)))

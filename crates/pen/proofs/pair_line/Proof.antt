@@ -1,7 +1,7 @@
 -- Two puts, one behind the other: an item, then a line of one item.
 use borrow.Author.Needs.{needs}
-use Rattle.pen.proofs.PutLaws.{first-room, then-room, then-put}
-use Rattle.pen.specs.Lines.{pairLine}
+use Rattle.pen_put.proofs.PutLaws.{first-room, then-room, then-put}
+use Rattle.pen_put.specs.Lines.{pairLine}
 use Rattle.pen.proofs.pair_line.Statement.{statement}
 use Rattle.pen.proofs.pair_line.Tie as tie
 

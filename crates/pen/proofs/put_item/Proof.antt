@@ -6,9 +6,11 @@ use Rattle.pen.proofs.Logic.{whole, sub, look-in, fmOf, owns, uint-vals
 use Rattle.pen.proofs.Logic.{Meets, tripleOf, Triple, entered, cited, says, needs, Stays, stay-dropped, gave-slice, goes-dropped, goes-gave-slice, ends-at}
 use Rattle.pen.proofs.Logic.{yes, plain, u64, ShrSlice, shr-slice-tells, Slot, shrSliceOf, RefT, List, ℕ}
 use Rattle.pen.specs.declared.Writer.{Writer}
-use Rattle.pen.specs.Digits.{digits}
-use Rattle.pen.specs.Lines.{HasRoom, Put, wrote, item}
-use Rattle.pen.proofs.PutLaws.{then-put, put-length, wrote-put, wrote-room}
+use Rattle.pen_put.specs.Digits.{digits}
+use Rattle.pen_put.specs.Lines.{HasRoom, Put, item}
+use Rattle.pen.specs.Wrote.{wrote}
+use Rattle.pen_put.proofs.PutLaws.{then-put, put-length}
+use Rattle.pen.proofs.Wrote.{wrote-put, wrote-room}
 use Rattle.pen.proofs.Walks.{by-walk, var, free-at}
 use Rattle.pen.proofs.Lent.{slice}
 use Rattle.pen.proofs.Calls.{Resume, Word, Number, Fill, resume-call, word-call, number-call, fill-call}

@@ -5,14 +5,14 @@ use Rattle.pen.proofs.Logic.{done, look, init, stop, hop, fld, from, lo
 use Rattle.pen.proofs.Logic.{params1, pass1, pass0, free0, agg, whole, sub, look-in, store-in, fmOf, owns, nothing, Meets, tripleOf, Contract, Triple}
 use Rattle.pen.proofs.Logic.{entered, cited, says, needs, Stays, ends-at, namedLft, Slot, plain, shrSliceOf, u8, yes, stay-dropped, goes-dropped, ShrSlice}
 use Rattle.pen.proofs.Logic.{slice-vals, shr-slice-tells}
-use Rattle.pen.specs.Lines.{HasRoom}
+use Rattle.pen_put.specs.Lines.{HasRoom}
 use Rattle.pen.proofs.Writer as T
 use Rattle.pen.proofs.Walks.{by-walk, var, free-at}
 use Rattle.pen.proofs.Held.{writer-spent, writer-spent-goes, writer-vals, writer-tells, writer-owed, writer-typed}
 use Rattle.pen.proofs.Lent.{slice, mach, under, opens, put-call, shuts}
-use Rattle.pen.proofs.put_word as put-word
-use Rattle.pen.proofs.put_word.Symbol as put-word-def
-use Rattle.pen.proofs.put_word.Met as put-word-thm
+use Rattle.pen_put.proofs.put_word as put-word
+use Rattle.pen_put.proofs.put_word.Symbol as put-word-def
+use Rattle.pen_put.proofs.put_word.Met as put-word-thm
 use Rattle.pen.proofs.word.Key.{name as #pen·word}
 use Rattle.pen.proofs.word as word
 use Rattle.pen.proofs.word.Statement as stated
@@ -70,4 +70,4 @@ word-spec 𝓤 H 𝓜 𝓖 𝓡 =
     entered 𝓤 H (tripleOf 𝓤 H (𝓖 .A) word.signature (word.spec 𝓤 H (𝓖 .A) (𝓜 .mem) (𝓡 .run)))
     (tables 𝓤 H 𝓜 𝓡 code.env .C) (tables 𝓤 H 𝓜 𝓡 code.env .Λ) #pen·word code.function (code.unfolded 𝓤 H 𝓜 𝓡)
     (word-meets 𝓤 H (𝓖 .A) (givenOf 𝓤 H 𝓜 𝓖) (𝓜 .mem) (𝓡 .run) (tablesOf 𝓤 H 𝓜 (tables 𝓤 H 𝓜 𝓡 code.env))
-    (cited 𝓤 H (PutWord 𝓤 H (𝓖 .A) (𝓜 .mem) (𝓡 .run)) 𝓜 𝓡 code.env put-word-def.name put-word-def.routine code.calls-pen·put-word (put-word-thm.met 𝓤 H 𝓜 𝓖 𝓡)))
+    (cited 𝓤 H (PutWord 𝓤 H (𝓖 .A) (𝓜 .mem) (𝓡 .run)) 𝓜 𝓡 code.env put-word-def.name put-word-def.routine code.calls-pen-put·put-word (put-word-thm.met 𝓤 H 𝓜 𝓖 𝓡)))

@@ -4,9 +4,9 @@ use native.Mathlib.Omega.{arith}
 use borrow.Author.Needs.{needs}
 use lib.ListN.{length-append}
 use lib.Seq.{length-take-le}
-use Rattle.pen.specs.Lines.{lineEnd, item, itemLine, pairLine}
-use Rattle.pen.proofs.DigitLaws.{digits-short}
-use Rattle.pen.proofs.PutLaws.{put-within}
+use Rattle.pen_put.specs.Lines.{lineEnd, item, itemLine, pairLine}
+use Rattle.pen_put.proofs.DigitLaws.{digits-short}
+use Rattle.pen_put.proofs.PutLaws.{put-within}
 use Rattle.pen_main.specs.Page.{numberRow, page}
 use Rattle.pen_main.proofs.main.Statement.{statement}
 use Rattle.pen_main.proofs.main.Tie as tie

@@ -1,6 +1,6 @@
 -- Five puts, one behind the other: what is left of the page fits behind what is put of it.
 use borrow.Author.Needs.{needs}
-use Rattle.pen.proofs.PutLaws.{first-room, then-room, then-put}
+use Rattle.pen_put.proofs.PutLaws.{first-room, then-room, then-put}
 use Rattle.pen_main.specs.Page.{page}
 use Rattle.pen_main.proofs.put_page.Statement.{statement}
 use Rattle.pen_main.proofs.put_page.Tie as tie

@@ -3,7 +3,7 @@ use Prim.Native.Nat.{_-_}
 use native.Mathlib.Omega.{arith}
 use borrow.Author.Needs.{needs}
 use lib.ListN.{length}
-use Rattle.pen.proofs.PutLaws.{Putting, putting-start, putting-room, putting-on, putting-end, put-length}
+use Rattle.pen_put.proofs.PutLaws.{Putting, putting-start, putting-room, putting-on, putting-end, put-length}
 use Rattle.pen_main.specs.Page.{blankItem, numberRow}
 use Rattle.pen_main.proofs.put_row.Statement.{statement}
 use Rattle.pen_main.proofs.put_row.Tie as tie

@@ -3,7 +3,7 @@ use mathlib.Core.List.{List}
 use Prim.Native.Nat.{ℕ}
 use Rattle.net.specs.Plan.{Plan}
 use Rattle.bounds_graph.specs.declared.reply.Measures.{Measures}
-use Rattle.pen.specs.Lines.{Put}
+use Rattle.pen_put.specs.Lines.{Put}
 use Rattle.report_graph.specs.Numbers.{Numbers, textOf}
 
 -- The report of the graph now stands in the first len bytes of the buffer.

@@ -2,8 +2,8 @@
 use native.Mathlib.Omega.{arith}
 use borrow.Author.Needs.{needs}
 use Rattle.marked.specs.Net.{at}
-use Rattle.pen.specs.Lines.{HasRoom}
-use Rattle.pen.proofs.PutLaws.{first-room, then-room, then-put}
+use Rattle.pen_put.specs.Lines.{HasRoom}
+use Rattle.pen_put.proofs.PutLaws.{first-room, then-room, then-put}
 use Rattle.report_lines.specs.Text.{reportText}
 use Rattle.report_lines.proofs.FitLaws.{writable-fits}
 use Rattle.report_lines.proofs.write_report.Statement.{statement}

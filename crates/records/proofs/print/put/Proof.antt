@@ -1,9 +1,9 @@
 -- A number of 16 bits takes five bytes at most, and a blank.
 use native.Mathlib.Omega.{arith}
 use borrow.Author.Needs.{needs}
-use Rattle.pen.specs.Lines.{item}
-use Rattle.pen.proofs.DigitLaws.{digits-short}
-use Rattle.pen.proofs.PutLaws.{put-length, put-within}
+use Rattle.pen_put.specs.Lines.{item}
+use Rattle.pen_put.proofs.DigitLaws.{digits-short}
+use Rattle.pen_put.proofs.PutLaws.{put-length, put-within}
 use Rattle.records.proofs.print.put.Statement.{statement}
 use Rattle.records.proofs.print.put.Tie as tie
 

@@ -1,6 +1,6 @@
 -- Four lines, one behind the other: what is left of them fits behind what is put of them.
 use borrow.Author.Needs.{needs}
-use Rattle.pen.proofs.PutLaws.{first-room, then-room, then-put}
+use Rattle.pen_put.proofs.PutLaws.{first-room, then-room, then-put}
 use Rattle.report_lines.specs.Text.{boundLines}
 use Rattle.report_lines.proofs.head.bound_lines.Statement.{statement}
 use Rattle.report_lines.proofs.head.bound_lines.Tie as tie

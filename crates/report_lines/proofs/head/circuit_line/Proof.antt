@@ -1,6 +1,6 @@
 -- Three puts, one behind the other: the word, the places, the line end.
 use borrow.Author.Needs.{needs}
-use Rattle.pen.proofs.PutLaws.{first-room, then-room, then-put}
+use Rattle.pen_put.proofs.PutLaws.{first-room, then-room, then-put}
 use Rattle.report_lines.specs.Text.{circuitLine}
 use Rattle.report_lines.proofs.head.circuit_line.Statement.{statement}
 use Rattle.report_lines.proofs.head.circuit_line.Tie as tie

@@ -1,6 +1,6 @@
 -- Three texts, one behind the other: counts, bounds, circuit.
 use borrow.Author.Needs.{needs}
-use Rattle.pen.proofs.PutLaws.{first-room, then-room, then-put}
+use Rattle.pen_put.proofs.PutLaws.{first-room, then-room, then-put}
 use Rattle.report_lines.specs.Text.{headText}
 use Rattle.report_lines.proofs.head.head_lines.Statement.{statement}
 use Rattle.report_lines.proofs.head.head_lines.Tie as tie

@@ -1,6 +1,6 @@
 -- Three puts, one behind the other: what is left of the line fits behind what is put of it.
 use borrow.Author.Needs.{needs}
-use Rattle.pen.proofs.PutLaws.{first-room, then-room, then-put}
+use Rattle.pen_put.proofs.PutLaws.{first-room, then-room, then-put}
 use Rattle.report_lines.specs.Text.{opsLine}
 use Rattle.report_lines.proofs.head.ops_line.Statement.{statement}
 use Rattle.report_lines.proofs.head.ops_line.Tie as tie

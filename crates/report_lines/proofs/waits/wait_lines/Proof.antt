@@ -3,7 +3,7 @@ use Prim.Native.Nat.{_+_, _*_, _-_}
 use native.Mathlib.Omega.{arith}
 use borrow.Author.Needs.{needs}
 use Rattle.marked.specs.Net.{at}
-use Rattle.pen.proofs.PutLaws.{Putting, putting-start, putting-room, putting-on, putting-end, put-length}
+use Rattle.pen_put.proofs.PutLaws.{Putting, putting-start, putting-room, putting-on, putting-end, put-length}
 use Rattle.report_lines.specs.Text.{waitOf, waitLines}
 use Rattle.report_lines.proofs.waits.wait_lines.Statement.{statement}
 use Rattle.report_lines.proofs.waits.wait_lines.Tie as tie

@@ -5,10 +5,10 @@ use native.Mathlib.Omega.{arith}
 use borrow.Author.Needs.{needs}
 use lib.ListN.{length, take}
 use lib.Seq.{take-all}
-use Rattle.pen.specs.Lines.{HasRoom, Put}
-use Rattle.pen.proofs.PutLaws.{put-length, put-next}
-use Rattle.pen.proofs.put_word.Statement.{statement}
-use Rattle.pen.proofs.put_word.Tie as tie
+use Rattle.pen_put.specs.Lines.{HasRoom, Put}
+use Rattle.pen_put.proofs.PutLaws.{put-length, put-next}
+use Rattle.pen_put.proofs.put_word.Statement.{statement}
+use Rattle.pen_put.proofs.put_word.Tie as tie
 
 abbrev Inv-loop : tie.InvT-loop
 Inv-loop buf₀ at s i₀ buf i = (i ≤ length s) × HasRoom buf₀ at s × Put buf₀ at (take i s) buf (at + i)

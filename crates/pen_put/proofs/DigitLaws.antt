@@ -8,8 +8,8 @@ use mathlib.Core.List.{List, [], _∷_, _++_}
 use lib.Dec.{ltb}
 use lib.ListN.{length, length-append}
 use borrow.Author.Tests.{ltb-true, ltb-false, lt-ltb, le-ltb}
-use Rattle.pen.specs.Digits.{digitsBy, digits}
-use Rattle.pen.specs.helpers.Reading.{readsOn, reads, Decimal}
+use Rattle.pen_put.specs.Digits.{digitsBy, digits}
+use Rattle.pen_put.specs.helpers.Reading.{readsOn, reads, Decimal}
 
 small-or : (n : ℕ) → (n < 10) ⊎ (10 ≤ n)
 small-or n = go (ltb n 10) refl

@@ -5,9 +5,7 @@ use mathlib.Core.List.{List, [], _++_}
 use lib.ListN.{length}
 use lib.Seq.{sets}
 use Rattle.little.specs.Text.{bytes}
-use denote.Ref.{now, at-last}
-use Rattle.pen.specs.declared.Writer.{Writer}
-use Rattle.pen.specs.Digits.{digits}
+use Rattle.pen_put.specs.Digits.{digits}
 
 -- the text has room in the buffer from `at` on
 pub record HasRoom (buf : List ℕ) (at : ℕ) (text : List ℕ) : Type 0 where
@@ -17,10 +15,6 @@ pub record HasRoom (buf : List ℕ) (at : ℕ) (text : List ℕ) : Type 0 where
 pub record Put (before : List ℕ) (at : ℕ) (text after : List ℕ) (next : ℕ) : Type 0 where
   pub place : next ≡ at + length text
   pub stands : after ≡ sets before at text
-
--- the writer with the text written: the same borrow, the text's bytes from its place on, and the place behind them
-abbrev pub wrote : Writer → List ℕ → Writer
-wrote w text = record { buf = at-last (w .buf) (sets (now (w .buf)) (w .at) text); at = w .at + length text }
 
 -- a line end: the newline byte, 10
 unfoldable pub lineEnd : List ℕ

@@ -1,4 +1,4 @@
--- Writes one behind the other are one write: laws of `HasRoom`, `Put` and `wrote`, from which every line and loop of lines is put together.
+-- Writes one behind the other are one write: laws of `HasRoom` and `Put`, from which every line and loop of lines is put together.
 use mathlib.Core.Path.{_≡_, refl, ap, sym, _∙_}
 use Prim.Native.Nat.{ℕ, zero, suc, _+_, _<_, _≤_}
 use mathlib.Core.Logic.{_⊎_, inl, inr}
@@ -8,9 +8,7 @@ use native.Mathlib.Omega.{arith}
 use mathlib.Core.List.{List, [], _∷_, _++_}
 use lib.ListN.{length, set, take, getD, length-append}
 use lib.Seq.{sets, length-sets, take-suc}
-use denote.Ref.{now}
-use Rattle.pen.specs.declared.Writer.{Writer}
-use Rattle.pen.specs.Lines.{HasRoom, Put, wrote, series}
+use Rattle.pen_put.specs.Lines.{HasRoom, Put, series}
 
 sets-append : (l : List ℕ) (i : ℕ) (a b : List ℕ) → sets l i (a ++ b) ≡ sets (sets l i a) (i + length a) b
 sets-append l i [] b = ap (λ (k : ℕ). sets l k b) (sym (add-zero i))
@@ -42,14 +40,6 @@ first-room {a = a} b f = record { room = omega (arith, f .room, length-append a 
 -- what is put determines the buffer and the place behind it
 pub put-unique : {l y z : List ℕ} {at r s : ℕ} {a b : List ℕ} → a ≡ b → Put l at a y r → Put l at b z s → (r ≡ s) × (y ≡ z)
 put-unique {l} {at = at} e p q = (p .place ∙ ap (λ (t : List ℕ). at + length t) e ∙ sym (q .place), p .stands ∙ ap (λ (t : List ℕ). sets l at t) e ∙ sym (q .stands))
-
--- what a writer wrote is put
-pub wrote-put : (w : Writer) (a : List ℕ) → Put (now (w .buf)) (w .at) a (now (wrote w a .buf)) (wrote w a .at)
-wrote-put w a = record { place = refl; stands = refl }
-
--- where a writer has room for two texts, it has room for the first, and after it for the second
-pub wrote-room : (w : Writer) (a b : List ℕ) → HasRoom (now (w .buf)) (w .at) (a ++ b) → HasRoom (now (w .buf)) (w .at) a × HasRoom (now (wrote w a .buf)) (wrote w a .at) b
-wrote-room w a b f = (first-room b f, then-room (wrote-put w a) f)
 
 -- one more byte behind a text
 pub put-byte : {l z : List ℕ} {at r r′ : ℕ} {a : List ℕ} → Put l at a z r → (d : ℕ) → r′ ≡ r + 1 → Put l at (a ++ (d ∷ [])) (set z r d) r′

@@ -2,9 +2,9 @@
 use mathlib.Core.Path.{refl}
 use borrow.Author.Needs.{needs}
 use native.Mathlib.Omega.{arith}
-use Rattle.pen.specs.Lines.{lineEnd}
-use Rattle.pen.proofs.put_newline.Statement.{statement}
-use Rattle.pen.proofs.put_newline.Tie as tie
+use Rattle.pen_put.specs.Lines.{lineEnd}
+use Rattle.pen_put.proofs.put_newline.Statement.{statement}
+use Rattle.pen_put.proofs.put_newline.Tie as tie
 
 slice-write-buf : tie.Need-slice-write-buf
 unfolding lineEnd

@@ -4,18 +4,18 @@ use native.Mathlib.Omega.{arith}
 use borrow.Author.Needs.{needs}
 use mathlib.Core.List.{List, [], _∷_}
 use lib.ListN.{length}
-use Rattle.pen.specs.Digits.{digits}
-use Rattle.pen.specs.Lines.{HasRoom, Put}
-use Rattle.pen.proofs.DigitLaws.{digits-small, digits-more}
-use Rattle.pen.proofs.PutLaws.{first-room, then-room, put-byte}
+use Rattle.pen_put.specs.Digits.{digits}
+use Rattle.pen_put.specs.Lines.{HasRoom, Put}
+use Rattle.pen_put.proofs.DigitLaws.{digits-small, digits-more}
+use Rattle.pen_put.proofs.PutLaws.{first-room, then-room, put-byte}
 use Prim.Native.Nat.{ℕ, _<_, _≤_, _+_, _/_, _%_}
 use borrow.Fn.Kinds.{In}
 use borrow.Fn.PlainCycle.{Measures, is, falls, and}
-use Rattle.pen.proofs.put_number.Reads as put-number
-use Rattle.pen.proofs.put_number.Kinds as put-number-kinds
-use Rattle.pen.proofs.+put_number.Lts-put_number as put-number-lts
-use Rattle.pen.proofs.+put_number.{statement}
-use Rattle.pen.proofs.+put_number.Tie.{close}
+use Rattle.pen_put.proofs.put_number.Reads as put-number
+use Rattle.pen_put.proofs.put_number.Kinds as put-number-kinds
+use Rattle.pen_put.proofs.+put_number.Lts-put_number as put-number-lts
+use Rattle.pen_put.proofs.+put_number.{statement}
+use Rattle.pen_put.proofs.+put_number.Tie.{close}
 
 -- behind the digits of the tenth there is room for the last
 last-room : {l z : List ℕ} {at r : ℕ} (n : ℕ) → 10 ≤ n → HasRoom l at (digits n) → Put l at (digits (n / 10)) z r → HasRoom z r ((48 + n % 10) ∷ [])

@@ -1,0 +1,3 @@
+-- The laws of digits and of text put into a buffer.
+pub mod DigitLaws
+pub mod PutLaws
