@@ -118,6 +118,14 @@ fn by_hand(book: &mut Book) {
     }
 }
 
+// The limits of the model, as `limits_main` prints those of the proved code.
+fn limits() -> String {
+    use model::*;
+    format!(
+        "operations {FEWEST_OPERATIONS} {OPERATIONS}\nedges {FEWEST_EDGES} {EDGES}\ntime {SHORTEST_TIME} {TIME}\nlength {SHORTEST} {LENGTH}\n"
+    )
+}
+
 fn main() {
     bounds::as_printed();
 
@@ -141,5 +149,6 @@ fn main() {
 
     write("crates/report_main/stdin", &sample("P3"));
     write("crates/report_main/stdout", model::report(&sample("P3"), CAP).as_bytes());
+    write("crates/limits_main/stdout", limits().as_bytes());
     write("bench/reader/largest.amg", &looks::amg(&largest(), false));
 }
