@@ -22,14 +22,14 @@ use Rattle.net.specs.Graph.{netOf}
 use Rattle.net.proofs.Table.{step}
 use Rattle.fraction.specs.helpers.Loaded.{Pair, Weighted, loaded, mostTokens}
 use Rattle.fraction.proofs.Loads.{row-runs, weighted-short}
-use Rattle.tbo.specs.helpers.Chains.{Tour}
+use Rattle.tbo_round.specs.helpers.Chains.{Tour}
 use Rattle.tbo.specs.helpers.LargestBy.{LargestBy}
 use Rattle.tbo.specs.helpers.Improved.{Improved, Improves}
 use Rattle.tbo.specs.helpers.Improved.Improves.{beaten, certified as proven}
 use Rattle.tbo.specs.declared.improve.Improvement.{Improvement}
 use Rattle.tbo.specs.declared.improve.Improvement.the-variants.{Better, Certified}
-use Rattle.tbo.specs.declared.round.Ring.{Ring}
-use Rattle.tbo.proofs.Ways.{tour-holds, tour-lasts}
+use Rattle.tbo_round.specs.declared.Ring.{Ring}
+use Rattle.tbo_round.proofs.Ways.{tour-holds, tour-lasts}
 
 -- A closed walk that comes to no transition twice has no place.
 closed-none : {g : Net} {a b : ℕ} {ps : List ℕ} → Walk g a b ps → a ≡ b → Distinct (b ∷ froms g ps) → length ps ≡ 0

@@ -1,7 +1,2 @@
-pub mod Steadies
-pub mod Crowd
-pub mod Chains
-pub mod Ways
-pub mod Rounds
 pub mod Running
 pub mod Attained

@@ -10,10 +10,10 @@ use Rattle.net.specs.Limits.{mostTransitions}
 use Rattle.tbo_sweep.specs.helpers.Places.{Every}
 use Rattle.tbo_sweep.specs.helpers.Raises.{SweptOver}
 use Rattle.tbo_sweep.proofs.Lifting.{lifts-up}
-use Rattle.tbo.specs.helpers.Chains.{Round, Tour, Turns, back}
-use Rattle.tbo.proofs.Chains.{Sweeps, back-in, comes-round, no-end, notes-of, sweeps-snoc}
+use Rattle.tbo_round.specs.helpers.Chains.{Round, Tour, Turns, back}
+use Rattle.tbo_round.proofs.Chains.{Sweeps, back-in, comes-round, no-end, notes-of, sweeps-snoc}
 use Rattle.tbo.proofs.Chains.Sweeps.{begun}
-use Rattle.tbo.proofs.Steadies.{Steady, steady-start, steady-through}
+use Rattle.tbo_round.proofs.Steadies.{Steady, steady-start, steady-through}
 
 -- k sweeps from C have led to D and P.
 pub record Running (g : Net) (m time : ℕ → ℕ) (a b : ℕ) (C D P : ℕ → ℕ) (k : ℕ) : Type 0 where

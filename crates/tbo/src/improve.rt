@@ -1,10 +1,9 @@
 // A closed walk with more time per token than a / b, or the certificate that there is none.
-use crate::round;
-use crate::round::Ring;
 use net::EDGES;
 use net::PLACES;
 use net::TRANSITIONS;
 use tbo_order::ITEMS;
+use tbo_round::Ring;
 use tbo_sweep::NONE;
 ghost use Rattle.fraction.specs.helpers.Loaded.{Pair, Weighted, loaded};
 ghost use Rattle.tbo_order.specs.helpers.Items.{Ordered};
@@ -43,9 +42,9 @@ pub fn improve(
         if v == NONE {
             return Improvement::Certified;
         }
-        let w = round::follow(n, e, from, to, &pred, v);
+        let w = tbo_round::follow(n, e, from, to, &pred, v);
         if pred[w] != 0 {
-            let ring = round::go_round(n, e, from, to, marking, times, &pred, w);
+            let ring = tbo_round::go_round(n, e, from, to, marking, times, &pred, w);
             return Improvement::Better(ring);
         }
         k += 1;

@@ -1,6 +1,5 @@
 // TBO: the largest time per token of a circuit of the computational graph, with a certificate that no circuit has more.
 pub mod improve;
-pub mod round;
 
 use casts::byte_long;
 use casts::quad_long;

@@ -7,7 +7,7 @@ use native.Mathlib.Omega.{arith}
 use Rattle.marked.specs.Net.{at}
 use Rattle.net.specs.Graph.{netOf}
 use Rattle.net.specs.Plan.{wires}
-use Rattle.tbo.specs.helpers.Chains.{Tour}
+use Rattle.tbo_round.specs.helpers.Chains.{Tour}
 use Rattle.tbo.proofs.Attained.{improves-better, largest-by, left, nearer-of, pair-of, ring-tour}
 use Rattle.tbo.proofs.largest.Statement.{statement}
 use Rattle.tbo.proofs.largest.Tie as tie

@@ -4,8 +4,8 @@ use Prim.Native.Nat.{_*_, _<_, _≤_, ℕ}
 use Rattle.marked.specs.Net.{Net, at}
 use Rattle.marked.specs.Bounds.{Certifies}
 use Rattle.fraction.specs.helpers.Loaded.{Loaded, highest}
-use Rattle.tbo.specs.helpers.Chains.{Tour}
-use Rattle.tbo.specs.declared.round.Ring.{Ring}
+use Rattle.tbo_round.specs.helpers.Chains.{Tour}
+use Rattle.tbo_round.specs.declared.Ring.{Ring}
 use Rattle.tbo.specs.declared.improve.Improvement.{Improvement}
 use Rattle.tbo.specs.declared.improve.Improvement.the-variants.{Better, Certified}
 

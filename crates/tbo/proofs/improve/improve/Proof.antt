@@ -1,5 +1,5 @@
 -- The sweeps settle, which certifies; or the notes come round, which is a better ring.
-use Rattle.tbo.proofs.Chains.{notes-of}
+use Rattle.tbo_round.proofs.Chains.{notes-of}
 -- The invariant: k sweeps have led here. A sweep that raises nothing certifies; notes that come round are a better closed walk; and after as many sweeps as transitions they do.
 use Prim.Native.Nat.{_+_, _*_, _-_}
 use mathlib.Core.Path.{refl}

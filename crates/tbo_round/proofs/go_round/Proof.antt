@@ -9,10 +9,10 @@ use Rattle.net.specs.Graph.{netOf}
 use Rattle.net.specs.Plan.{wires}
 use Rattle.net.specs.Limits.{longestTime}
 use Rattle.fraction.proofs.Loads.{weighted-proper, weighted-short}
-use Rattle.tbo.proofs.Ways.{way-holds, way-lasts}
-use Rattle.tbo.proofs.Rounds.{Going, going-few, going-in, going-inside, going-none, going-on, going-pos, going-round}
-use Rattle.tbo.proofs.round.go_round.Statement.{statement}
-use Rattle.tbo.proofs.round.go_round.Tie as tie
+use Rattle.tbo_round.proofs.Ways.{way-holds, way-lasts}
+use Rattle.tbo_round.proofs.Rounds.{Going, going-few, going-in, going-inside, going-none, going-on, going-pos, going-round}
+use Rattle.tbo_round.proofs.go_round.Statement.{statement}
+use Rattle.tbo_round.proofs.go_round.Tie as tie
 
 abbrev Inv-loop : tie.InvT-loop
 Inv-loop n e from to marking times pred w x₀ time₀ tokens₀ k₀ x time tokens k = Going (netOf (wires n e from to)) (at marking) (at times) (at pred) w x time tokens k

@@ -5,8 +5,8 @@ use Prim.Native.Nat.{_+_, _-_, _<_, _≤_, ℕ}
 use native.Mathlib.Omega.{arith}
 use native.Mathlib.Decide.{ℕ-discrete}
 use Rattle.marked.specs.Net.{Net, Proper}
-use Rattle.tbo.specs.helpers.Chains.{Round, Turns, Way, back}
-use Rattle.tbo.proofs.Ways.{back-none, back-step, behind-noted, not-yet, still-noted, turns-in, way-none, way-on}
+use Rattle.tbo_round.specs.helpers.Chains.{Round, Turns, Way, back}
+use Rattle.tbo_round.proofs.Ways.{back-none, back-step, behind-noted, not-yet, still-noted, turns-in, way-none, way-on}
 
 -- k steps back from w lead to x, none of them to w.
 pub record Going (g : Net) (m time P : ℕ → ℕ) (w x t n k : ℕ) : Type 0 where

@@ -10,8 +10,8 @@ use Rattle.marked.specs.Sums.{sum}
 use Rattle.marked.specs.Net.{Net, Proper, Walk, go, lasts, stop, tokens}
 use Rattle.marked.proofs.Find.{above}
 use Rattle.fraction.specs.helpers.Loaded.{mostTokens}
-use Rattle.tbo.specs.helpers.Chains.{Notes, Tour, Turns, Way, back, behind}
-use Rattle.tbo.proofs.Chains.{back-in, stuck}
+use Rattle.tbo_round.specs.helpers.Chains.{Notes, Tour, Turns, Way, back, behind}
+use Rattle.tbo_round.proofs.Chains.{back-in, stuck}
 
 -- Going round.
 module _ {g : Net} {m time P : ℕ → ℕ} where

@@ -9,9 +9,9 @@ use Rattle.marked.specs.Lists.{All}
 use Rattle.marked.specs.Sums.{sum}
 use Rattle.marked.specs.Net.{Net, Proper, Walk, go, lasts, stop, tokens}
 use Rattle.tbo_sweep.specs.helpers.Raises.{Noted, NoRise}
-use Rattle.tbo.specs.helpers.Chains.{Notes, back, behind}
-use Rattle.tbo.proofs.Steadies.{Steady}
-use Rattle.tbo.proofs.Crowd.{crowded}
+use Rattle.tbo_round.specs.helpers.Chains.{Notes, back, behind}
+use Rattle.tbo_round.proofs.Steadies.{Steady}
+use Rattle.tbo_round.proofs.Crowd.{crowded}
 
 -- Sweeps over all places, k of them.
 pub data Sweeps (g : Net) (m time : ℕ → ℕ) (a b : ℕ) : ℕ → (ℕ → ℕ) → (ℕ → ℕ) → Type 0 where

@@ -7,11 +7,11 @@ use Rattle.marked.specs.Net.{at}
 use Rattle.net.specs.Graph.{netOf}
 use Rattle.net.specs.Plan.{wires}
 use Rattle.net.proofs.Shapes.{wired-proper}
-use Rattle.tbo.specs.helpers.Chains.{back}
-use Rattle.tbo.proofs.Chains.{back-in}
-use Rattle.tbo.proofs.Ways.{back-none, back-stays, back-step, behind-noted}
-use Rattle.tbo.proofs.round.follow.Statement.{statement}
-use Rattle.tbo.proofs.round.follow.Tie as tie
+use Rattle.tbo_round.specs.helpers.Chains.{back}
+use Rattle.tbo_round.proofs.Chains.{back-in}
+use Rattle.tbo_round.proofs.Ways.{back-none, back-stays, back-step, behind-noted}
+use Rattle.tbo_round.proofs.follow.Statement.{statement}
+use Rattle.tbo_round.proofs.follow.Tie as tie
 
 abbrev Inv-loop : tie.InvT-loop
 Inv-loop n e from to pred v w₀ k₀ w k = (k ≤ 3 * n + 2) × (w ≡ back (netOf (wires n e from to)) (at pred) k v)

@@ -13,7 +13,7 @@ ghost use Rattle.net.specs.Plan.{wires};
 ghost use Rattle.net.specs.Graph.{netOf};
 ghost use Rattle.net.specs.Good.{Wired};
 ghost use Rattle.fraction.specs.helpers.Loaded.{Weighted};
-ghost use Rattle.tbo.specs.helpers.Chains.{Notes, Round, Turns, back};
+ghost use Rattle.tbo_round.specs.helpers.Chains.{Notes, Round, Turns, back};
 
 // As many steps back from v as there are transitions, each to the source of the place noted there; where none is, it stays. Whoever is on a ring of
 // notes by then stays on it.
