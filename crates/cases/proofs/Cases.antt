@@ -10,7 +10,7 @@ use Rattle.reader.proofs.Total.{look-total, lookOf}
 use Rattle.paths.specs.Modified.{nodeTime}
 use Rattle.pen_put.specs.Digits.{digits, digitsBy}
 use Rattle.pen_put.specs.Lines.{item, itemLine, lineEnd, pairLine}
-use Rattle.report_lines.specs.Text.{boundLines, circuitLine, headText, opsLine, reportText, ringPlaces, waitLines}
+use Rattle.report_text.specs.Text.{boundLines, circuitLine, headText, opsLine, reportText, ringPlaces, waitLines}
 use Rattle.cases.specs.Files.{fileOf}
 use Rattle.cases.specs.Table.{Case, P1-to-P10, True, case, table}
 use Rattle.cases.proofs.Trying.{Tried, every, given}

@@ -7,7 +7,7 @@ use lib.ListN.{drop, length, take}
 use lib.Seq.{sets, sets-eq, take-at}
 use Rattle.marked.proofs.Demand.{waits-unique}
 use Rattle.pen_put.specs.Lines.{Put}
-use Rattle.report_lines.specs.Text.{headText, reportText}
+use Rattle.report_text.specs.Text.{headText, reportText}
 use Rattle.report.specs.Demand.{WaitsPrinted}
 use Rattle.report.specs.Reply.{ReportReply, written}
 use Rattle.report.specs.declared.reply.Report.the-variants.{Written}

@@ -26,8 +26,8 @@ use Rattle.circuit.specs.Chosen.{Chosen}
 use Rattle.circuit.proofs.Unique.{chosen-unique}
 use Rattle.bounds_graph.specs.declared.reply.Measures.{Measures}
 use Rattle.pen_put.proofs.PutLaws.{series-same, put-length, put-unique}
-use Rattle.report_lines.specs.Text.{refusedLine, reportText, waitLine, waitLines, waitOf}
-use Rattle.report_lines.proofs.FitLaws.{refused-fits}
+use Rattle.report_text.specs.Text.{refusedLine, reportText, waitLine, waitLines, waitOf}
+use Rattle.report_text.proofs.FitLaws.{refused-fits}
 use Rattle.report.specs.Reply.{ReportReply, lengthOf, refused, reportRows, roomRows, short, written}
 use Rattle.report_graph.specs.Numbers.{Numbers, reportBytes, textOf}
 use Rattle.report.specs.declared.reply.Report.{Report}

@@ -8,7 +8,7 @@ use Rattle.net.specs.Graph.{netOf, startOf}
 use Rattle.reader.specs.Reply.{shown}
 use Rattle.reader.specs.Outcome.{Ends, accepted}
 use Rattle.reader.specs.declared.graph.Graph.{Graph}
-use Rattle.report_lines.specs.Text.{waitLines}
+use Rattle.report_text.specs.Text.{waitLines}
 use Rattle.report.specs.Reply.{reportRows}
 
 -- The first len bytes of the buffer end with a line for each transition of look's graph, in order;

@@ -10,7 +10,7 @@ use Rattle.reader.specs.Outcome.{Ends, accepted, refusal}
 use Rattle.reader.specs.declared.graph.Graph.{Graph}
 use Rattle.bounds_graph.specs.declared.reply.Measures.{Measures}
 use Rattle.pen_put.specs.Lines.{Put}
-use Rattle.report_lines.specs.Text.{refusedLine}
+use Rattle.report_text.specs.Text.{refusedLine}
 use Rattle.report_graph.specs.Numbers.{Numbers, reportBytes, textOf}
 use Rattle.report.specs.declared.reply.Report.{Report}
 use Rattle.report.specs.declared.reply.Report.the-variants.{Refused, Written}

@@ -21,8 +21,8 @@ use Rattle.paths.proofs.Passing.{good-passing}
 use Rattle.paths.proofs.Bounded.{effort-most}
 use Rattle.paths.proofs.Order.{tbio-most, tt-most}
 use Rattle.bounds_graph.specs.declared.reply.Measures.{Measures}
-use Rattle.report_lines.specs.helpers.Limits.{Printable}
-use Rattle.report_lines.proofs.FitLaws.{report-fits}
+use Rattle.report_text.specs.helpers.Limits.{Printable}
+use Rattle.report_text.proofs.FitLaws.{report-fits}
 use Rattle.report_graph.specs.Numbers.{Numbers, reportBytes, textOf}
 
 module _ {n e : ℕ} {times from to mark buffers : List ℕ} (ok : Good n e times from to mark buffers) where

@@ -8,7 +8,7 @@ use Rattle.tbo.specs.TBO.{TBO}
 use Rattle.paths.specs.Longest.{TBIO, TCE, TT}
 use Rattle.circuit.specs.Chosen.{Chosen}
 use Rattle.bounds_graph.specs.declared.reply.Measures.{Measures}
-use Rattle.report_lines.specs.Text.{reportText}
+use Rattle.report_text.specs.Text.{reportText}
 
 -- The numbers of a graph's report: the bounds, the circuit that is handed out, and the wait of each transition from the starting marking.
 pub record Numbers (g : Plan) (v : Measures) (ring : List ℕ) (wait : ℕ → ℕ) : Type 0 where

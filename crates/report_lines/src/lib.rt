@@ -1,15 +1,14 @@
 // The lines of a report, from its numbers: the text of an accepted file, line by line, and that of a refused one, in a lent buffer.
-mod head;
 mod waits;
 
-use head::head_lines;
+use report_head::head_lines;
 use waits::wait_lines;
 ghost use Prim.Native.Nat.{_≤_};
 ghost use lib.ListN.{length};
 ghost use Rattle.marked.specs.Net.{at};
 ghost use Rattle.pen_put.specs.Lines.{Put};
-ghost use Rattle.report_lines.specs.Text.{reportText, refusedLine};
-ghost use Rattle.report_lines.specs.helpers.Limits.{Writable};
+ghost use Rattle.report_text.specs.Text.{reportText, refusedLine};
+ghost use Rattle.report_text.specs.helpers.Limits.{Writable};
 
 // The whole report, from the buffer's first byte; says how long it is.
 pub fn write_report(

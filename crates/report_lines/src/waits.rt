@@ -2,7 +2,7 @@
 ghost use Prim.Native.Nat.{_+_, _*_, _≤_};
 ghost use lib.ListN.{length, getD};
 ghost use Rattle.pen_put.specs.Lines.{HasRoom, Put};
-ghost use Rattle.report_lines.specs.Text.{waitLine, waitLines};
+ghost use Rattle.report_text.specs.Text.{waitLine, waitLines};
 
 // A transition and its wait, as `wait 4 8`.
 fn wait_line(buf: &mut [u8], at: usize, t: usize, w: u32) -> usize

@@ -1,7 +1,7 @@
 -- The line has at most 21 bytes, so it fits.
 use native.Mathlib.Omega.{arith}
 use borrow.Author.Needs.{needs}
-use Rattle.report_lines.proofs.FitLaws.{refused-fits}
+use Rattle.report_text.proofs.FitLaws.{refused-fits}
 use Rattle.report_lines.proofs.write_refused.Statement.{statement}
 use Rattle.report_lines.proofs.write_refused.Tie as tie
 

@@ -4,8 +4,8 @@ use borrow.Author.Needs.{needs}
 use Rattle.marked.specs.Net.{at}
 use Rattle.pen_put.specs.Lines.{HasRoom}
 use Rattle.pen_put.proofs.PutLaws.{first-room, then-room, then-put}
-use Rattle.report_lines.specs.Text.{reportText}
-use Rattle.report_lines.proofs.FitLaws.{writable-fits}
+use Rattle.report_text.specs.Text.{reportText}
+use Rattle.report_text.proofs.FitLaws.{writable-fits}
 use Rattle.report_lines.proofs.write_report.Statement.{statement}
 use Rattle.report_lines.proofs.write_report.Tie as tie
 

@@ -4,7 +4,7 @@ use native.Mathlib.Omega.{arith}
 use borrow.Author.Needs.{needs}
 use Rattle.marked.specs.Net.{at}
 use Rattle.pen_put.proofs.PutLaws.{Putting, putting-start, putting-room, putting-on, putting-end, put-length}
-use Rattle.report_lines.specs.Text.{waitOf, waitLines}
+use Rattle.report_text.specs.Text.{waitOf, waitLines}
 use Rattle.report_lines.proofs.waits.wait_lines.Statement.{statement}
 use Rattle.report_lines.proofs.waits.wait_lines.Tie as tie
 

@@ -1,9 +1,9 @@
 -- Three puts, one behind the other: the word, the places, the line end.
 use borrow.Author.Needs.{needs}
 use Rattle.pen_put.proofs.PutLaws.{first-room, then-room, then-put}
-use Rattle.report_lines.specs.Text.{circuitLine}
-use Rattle.report_lines.proofs.head.circuit_line.Statement.{statement}
-use Rattle.report_lines.proofs.head.circuit_line.Tie as tie
+use Rattle.report_text.specs.Text.{circuitLine}
+use Rattle.report_head.proofs.circuit_line.Statement.{statement}
+use Rattle.report_head.proofs.circuit_line.Tie as tie
 
 -- each place seen from behind the next put: the start, behind the word, behind the places
 abbrev start : tie.After-put-word → tie.Start

@@ -1,9 +1,9 @@
 -- Three puts, one behind the other: what is left of the line fits behind what is put of it.
 use borrow.Author.Needs.{needs}
 use Rattle.pen_put.proofs.PutLaws.{first-room, then-room, then-put}
-use Rattle.report_lines.specs.Text.{opsLine}
-use Rattle.report_lines.proofs.head.ops_line.Statement.{statement}
-use Rattle.report_lines.proofs.head.ops_line.Tie as tie
+use Rattle.report_text.specs.Text.{opsLine}
+use Rattle.report_head.proofs.ops_line.Statement.{statement}
+use Rattle.report_head.proofs.ops_line.Tie as tie
 
 -- each place seen from behind the next put: the start, behind the operations, behind the edges
 abbrev start : tie.After-put-item → tie.Start

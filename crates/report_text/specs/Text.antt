@@ -4,8 +4,8 @@ use mathlib.Core.List.{List, _++_}
 use lib.ListN.{length}
 use Rattle.marked.specs.Net.{at}
 use Rattle.pen_put.specs.Lines.{lineEnd, item, itemLine, pairLine, series}
-use Rattle.report_lines.specs.Words.{opsWord, edgesWord, transitionsWord, placesWord, tboWord, slashWord, tbioWord, ttWord, tceWord}
-use Rattle.report_lines.specs.Words.{circuitWord, blankWord, waitWord, refusedWord, atWord}
+use Rattle.report_text.specs.Words.{opsWord, edgesWord, transitionsWord, placesWord, tboWord, slashWord, tbioWord, ttWord, tceWord}
+use Rattle.report_text.specs.Words.{circuitWord, blankWord, waitWord, refusedWord, atWord}
 
 -- The four counts of N operations and E edges: `ops N edges E transitions 3N+2 places 3N+2E`.
 unfoldable pub opsLine : ℕ → ℕ → List ℕ

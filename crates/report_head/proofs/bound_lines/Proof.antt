@@ -1,9 +1,9 @@
 -- Four lines, one behind the other: what is left of them fits behind what is put of them.
 use borrow.Author.Needs.{needs}
 use Rattle.pen_put.proofs.PutLaws.{first-room, then-room, then-put}
-use Rattle.report_lines.specs.Text.{boundLines}
-use Rattle.report_lines.proofs.head.bound_lines.Statement.{statement}
-use Rattle.report_lines.proofs.head.bound_lines.Tie as tie
+use Rattle.report_text.specs.Text.{boundLines}
+use Rattle.report_head.proofs.bound_lines.Statement.{statement}
+use Rattle.report_head.proofs.bound_lines.Tie as tie
 
 -- each place seen from behind the next line: the start, behind TBO, behind TBIO, behind TT
 abbrev start : tie.After-pair-line → tie.Start

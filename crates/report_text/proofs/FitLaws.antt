@@ -6,9 +6,9 @@ use lib.ListN.{length, length-append}
 use Rattle.marked.specs.Net.{at}
 use Rattle.pen_put.specs.Lines.{HasRoom, lineEnd, item, itemLine, pairLine, series}
 use Rattle.pen_put.proofs.DigitLaws.{digits-short}
-use Rattle.report_lines.specs.Words.{opsWord, edgesWord, transitionsWord, placesWord, tboWord, slashWord, tbioWord, ttWord, tceWord, blankWord, waitWord, refusedWord, atWord}
-use Rattle.report_lines.specs.Text.{opsLine, boundLines, ringPlace, ringPlaces, circuitLine, headText, waitOf, waitLines, reportText, refusedLine}
-use Rattle.report_lines.specs.helpers.Limits.{CountsFit, Printable, Writable}
+use Rattle.report_text.specs.Words.{opsWord, edgesWord, transitionsWord, placesWord, tboWord, slashWord, tbioWord, ttWord, tceWord, blankWord, waitWord, refusedWord, atWord}
+use Rattle.report_text.specs.Text.{opsLine, boundLines, ringPlace, ringPlaces, circuitLine, headText, waitOf, waitLines, reportText, refusedLine}
+use Rattle.report_text.specs.helpers.Limits.{CountsFit, Printable, Writable}
 
 -- a number below 10 ^ suc k behind a word has at most suc k bytes more than the word
 item-short : (name : List ℕ) (k n : ℕ) → n < 10 ^ suc k → length (item name n) ≤ length name + suc k

@@ -1,8 +1,8 @@
 // The lines before the waits, over plain values: one function a line, each written behind the last into the lent buffer.
 ghost use Rattle.pen_put.specs.Lines.{HasRoom, Put, item};
-ghost use Rattle.report_lines.specs.Words.{blankWord};
-ghost use Rattle.report_lines.specs.Text.{opsLine, boundLines, ringPlaces, circuitLine, headText};
-ghost use Rattle.report_lines.specs.helpers.Limits.{CountsFit};
+ghost use Rattle.report_text.specs.Words.{blankWord};
+ghost use Rattle.report_text.specs.Text.{opsLine, boundLines, ringPlaces, circuitLine, headText};
+ghost use Rattle.report_text.specs.helpers.Limits.{CountsFit};
 
 // The four counts, as `ops 1 edges 2 transitions 5 places 7`.
 fn ops_line(buf: &mut [u8], at: usize, n: usize, e: usize) -> usize

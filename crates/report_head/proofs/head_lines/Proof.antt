@@ -1,9 +1,9 @@
 -- Three texts, one behind the other: counts, bounds, circuit.
 use borrow.Author.Needs.{needs}
 use Rattle.pen_put.proofs.PutLaws.{first-room, then-room, then-put}
-use Rattle.report_lines.specs.Text.{headText}
-use Rattle.report_lines.proofs.head.head_lines.Statement.{statement}
-use Rattle.report_lines.proofs.head.head_lines.Tie as tie
+use Rattle.report_text.specs.Text.{headText}
+use Rattle.report_head.proofs.head_lines.Statement.{statement}
+use Rattle.report_head.proofs.head_lines.Tie as tie
 
 -- each place seen from behind the next text: the start, behind the counts, behind the bounds
 abbrev start : tie.After-ops-line → tie.Start

@@ -4,9 +4,9 @@ use native.Mathlib.Omega.{arith}
 use borrow.Author.Needs.{needs}
 use lib.ListN.{length}
 use Rattle.pen_put.proofs.PutLaws.{Putting, putting-start, putting-room, putting-on, putting-end, put-length}
-use Rattle.report_lines.specs.Text.{ringPlace, ringPlaces}
-use Rattle.report_lines.proofs.head.ring_places.Statement.{statement}
-use Rattle.report_lines.proofs.head.ring_places.Tie as tie
+use Rattle.report_text.specs.Text.{ringPlace, ringPlaces}
+use Rattle.report_head.proofs.ring_places.Statement.{statement}
+use Rattle.report_head.proofs.ring_places.Tie as tie
 
 abbrev Inv-loop : tie.InvT-loop
 Inv-loop buf₀ at ring next₀ i₀ buf next i = Putting (ringPlace ring) (length ring) buf₀ at buf next i

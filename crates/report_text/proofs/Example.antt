@@ -6,7 +6,7 @@ use Rattle.marked.specs.Net.{at}
 use Rattle.little.specs.Text.{bytes}
 use Rattle.pen_put.specs.Digits.{digitsBy, digits}
 use Rattle.pen_put.specs.Lines.{lineEnd, item, itemLine, pairLine}
-use Rattle.report_lines.specs.Text.{opsLine, boundLines, ringPlaces, circuitLine, headText, waitLines, reportText, refusedLine}
+use Rattle.report_text.specs.Text.{opsLine, boundLines, ringPlaces, circuitLine, headText, waitLines, reportText, refusedLine}
 
 abbrev pub one : List ℕ
 one =

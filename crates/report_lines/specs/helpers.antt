@@ -1,2 +1,0 @@
--- Helper words of the lines: no contract of a public call needs them.
-pub mod Limits

@@ -1,0 +1,1 @@
+// The report's words and text: definitions and laws, and no code.
