@@ -5,7 +5,7 @@ use Rattle.little.specs.Little.{quad, word}
 use Rattle.marked.specs.Sums.{sum, upto}
 use Rattle.marked.specs.Wait.{others}
 use Rattle.net.specs.Ends.{dstOf, srcOf, startAt, timeOf}
-use Rattle.file.specs.File.{backOf, edgeByte, edgesAt, edgesOf, operationsAt, operationsOf, operationTime, trailerAt}
+use Rattle.file_trailer.specs.File.{backOf, edgeByte, edgesAt, edgesOf, operationsAt, operationsOf, operationTime, trailerAt}
 use Rattle.reader.proofs.Total.{look-total, lookOf}
 use Rattle.paths.specs.Modified.{nodeTime}
 use Rattle.pen_put.specs.Digits.{digits, digitsBy}

@@ -12,7 +12,7 @@ use Rattle.marked.specs.Net.{at}
 use Rattle.marked.proofs.Decide.{both?, each?, eq?, le?, lt?}
 use Rattle.net.specs.Plan.{Plan}
 use Rattle.net.specs.Good.{Good}
-use Rattle.file.specs.File.{planOf}
+use Rattle.file_trailer.specs.File.{planOf}
 use Rattle.reader.specs.Reply.{LookReply, shown}
 use Rattle.reader.specs.Outcome.{passed, refused as by-row}
 use Rattle.reader.specs.declared.graph.Graph.{Graph}

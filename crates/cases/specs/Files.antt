@@ -2,7 +2,7 @@
 use mathlib.Core.List.{List, [], _∷_, _++_}
 use Prim.Native.Nat.{_%_, _*_, _+_, _/_, ℕ}
 use lib.ListN.{length, replicate}
-use Rattle.file.specs.Limits.{edgeBytes, operationBytes}
+use Rattle.file_trailer.specs.Limits.{edgeBytes, operationBytes}
 use Rattle.file.specs.Frame.{magic}
 
 -- An edge from one node to another, without a mark, or with one (a star in document 01).

@@ -8,7 +8,7 @@ use Rattle.refusal.specs.declared.Verdict.the-variants.{Accepted, Refused}
 use Rattle.marked.specs.Net.{at}
 use Rattle.net.specs.Plan.{Plan}
 use Rattle.net.specs.Graph.{netOf, startOf, timesOf}
-use Rattle.file.specs.File.{planOf}
+use Rattle.file_trailer.specs.File.{planOf}
 use Rattle.reader.specs.Reply.{LookReply, shown}
 use Rattle.reader.specs.declared.graph.Look.{Look}
 use Rattle.firing.specs.declared.step.Answer.the-variants.{Refused as StepRefused}

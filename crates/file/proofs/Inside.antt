@@ -6,7 +6,7 @@ use mathlib.Core.List.{List}
 use native.Mathlib.Omega.{arith}
 use lib.ListN.{length}
 use Rattle.net.specs.Limits.{Within}
-use Rattle.file.specs.File.{edgesAt, edgesOf, operationsAt, operationsOf, trailerAt}
+use Rattle.file_trailer.specs.File.{edgesAt, edgesOf, operationsAt, operationsOf, trailerAt}
 use Rattle.file.specs.Frame.{Framed}
 
 module _ (f : List ℕ) (h : Framed f) where

@@ -10,8 +10,8 @@ use Rattle.little.specs.Little.{byteAt, word, quad}
 use Rattle.net.specs.Plan.{Agree}
 use Rattle.net.specs.Rules.{Edge, Operation}
 use Rattle.net.proofs.Agree.{agree-rows}
-use Rattle.file.specs.Limits.{edgeBytes, operationBytes}
-use Rattle.file.specs.File.{trailerAt, operationsAt, operationsOf, edgesAt, edgesOf, backOf, operationTime, edgeByte, planOf}
+use Rattle.file_trailer.specs.Limits.{edgeBytes, operationBytes}
+use Rattle.file_trailer.specs.File.{trailerAt, operationsAt, operationsOf, edgesAt, edgesOf, backOf, operationTime, edgeByte, planOf}
 use Rattle.file.specs.Frame.{CountsKept, EndsWithMagic, Laid, Signed, Sized, lookRows}
 use Rattle.file.specs.Labels.{Label, SameButLabels}
 

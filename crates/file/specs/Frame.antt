@@ -10,8 +10,8 @@ use Rattle.little.specs.Little.{byteAt}
 use Rattle.little.specs.Text.{bytes}
 use Rattle.net.specs.Limits.{Counted}
 use Rattle.net.specs.Rules.{graphRows}
-use Rattle.file.specs.Limits.{FileLength, edgeBytes, operationBytes}
-use Rattle.file.specs.File.{backOf, edgesAt, edgesOf, operationsAt, operationsOf, planOf, trailerAt}
+use Rattle.file_trailer.specs.Limits.{FileLength, edgeBytes, operationBytes}
+use Rattle.file_trailer.specs.File.{backOf, edgesAt, edgesOf, operationsAt, operationsOf, planOf, trailerAt}
 
 -- 1: the length is within its limits.
 abbrev pub Sized : List ℕ → Type 0

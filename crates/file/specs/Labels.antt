@@ -6,8 +6,8 @@ use lib.ListN.{length}
 use Rattle.little.specs.Little.{byteAt}
 use Rattle.net.specs.Limits.{Within}
 use Rattle.net.specs.Plan.{Agree}
-use Rattle.file.specs.Limits.{operationBytes}
-use Rattle.file.specs.File.{operationsAt, operationsOf, planOf, trailerAt}
+use Rattle.file_trailer.specs.Limits.{operationBytes}
+use Rattle.file_trailer.specs.File.{operationsAt, operationsOf, planOf, trailerAt}
 use Rattle.file.specs.Frame.{Framed}
 
 -- Byte p is a label's: it stands before the trailer, and is one of bytes 4 to 11 of a record of the operation table

@@ -4,28 +4,19 @@ use crate::LENGTH;
 use crate::MAGIC;
 use crate::OPERATION;
 use crate::SHORTEST;
-use crate::TRAILER;
+use file_trailer::TRAILER;
+use file_trailer::numbers;
 use little::byte;
-use little::word;
 use net::EDGES;
 use net::FEWEST_EDGES;
 use net::FEWEST_OPERATIONS;
 use net::OPERATIONS;
 use refusal::Verdict;
 use refusal::refuse;
+ghost use mathlib.Core.Path.{_≡_};
 ghost use Rattle.refusal.specs.Asking.{Judged};
 ghost use Rattle.refusal.specs.helpers.Answers.{Says};
 ghost use Rattle.file.specs.Frame.{CountsKept, EndsWithMagic, Laid, Signed, Sized, frameRows};
-ghost use Rattle.file.specs.helpers.Trailer.{TrailerOf};
-
-// The numbers of a file's trailer.
-pub struct Trailer {
-    pub optable: usize,
-    pub operations: usize,
-    pub edgetable: usize,
-    pub edges: usize,
-    pub back: usize,
-}
 
 // Row 1: the length is within its limits.
 fn sized(file: &[u8]) -> bool
@@ -38,21 +29,6 @@ fn sized(file: &[u8]) -> bool
         return false;
     }
     true
-}
-
-// The trailer's five numbers.
-pub fn numbers(file: &[u8]) -> Trailer
-    requires { ⌜ Sized (now file) ⌝ }
-    ensures { λ r. ⌜ TrailerOf (now (file .entry)) r ⌝ }
-{
-    let at = file.len() - TRAILER;
-    Trailer {
-        optable: word(file, at) as usize,
-        operations: word(file, at + 2) as usize,
-        edgetable: word(file, at + 4) as usize,
-        edges: word(file, at + 6) as usize,
-        back: word(file, at + 8) as usize,
-    }
 }
 
 // AMG1 stands at the very end.
@@ -107,6 +83,16 @@ fn counted(file: &[u8]) -> bool
     true
 }
 
+// One table stands at 0, and the other right behind its bytes.
+fn behind(first: usize, second: usize, bytes: usize) -> bool
+    ensures { λ r. ⌜ Says ((first ≡ 0) × (second ≡ bytes)) r ⌝ }
+{
+    if first != 0 {
+        return false;
+    }
+    second == bytes
+}
+
 // Row 4. The tables are never empty, so the one that comes first stands at 0 and the other right behind it.
 fn laid(file: &[u8]) -> bool
     requires { ⌜ Sized (now file) ⌝ }
@@ -123,19 +109,10 @@ fn laid(file: &[u8]) -> bool
     if operations + edges != before {
         return false;
     }
-    if t.optable == 0 {
-        if t.edgetable != operations {
-            return false;
-        }
+    if behind(t.optable, t.edgetable, operations) {
         return true;
     }
-    if t.edgetable != 0 {
-        return false;
-    }
-    if t.optable != edges {
-        return false;
-    }
-    true
+    behind(t.edgetable, t.optable, edges)
 }
 
 // The first of rows 1 to 4 that is broken, or accepted.

@@ -1,8 +1,7 @@
-// A file: where its numbers stand, and its frame, rows 1 to 4.
+// A file: its sizes, and its frame, rows 1 to 4.
 pub mod frame;
 
-// A file ends with its trailer.
-pub const TRAILER: usize = 16;
+use file_trailer::TRAILER;
 
 // The bytes of an operation's record, and of an edge's.
 pub const OPERATION: usize = 12;

@@ -12,7 +12,7 @@ use Rattle.net.specs.Rules.{graphRows}
 use Rattle.net.specs.Good.{Good}
 use Rattle.net.proofs.Agree.{agree-rows, agree-sym}
 use Rattle.net.proofs.Good.{sound-good}
-use Rattle.file.specs.File.{edgesOf, operationsOf, planOf}
+use Rattle.file_trailer.specs.File.{edgesOf, operationsOf, planOf}
 use Rattle.file.specs.Frame.{Framed, frameRows, lookRows}
 use Rattle.file.proofs.Order.{framed-sound, sound-framed}
 use Rattle.reader.specs.Reply.{Beside, LookReply, Shows, shown}

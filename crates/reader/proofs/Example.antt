@@ -4,7 +4,7 @@ use mathlib.Core.List.{List, [], _∷_}
 use Prim.Native.Nat.{ℕ}
 use Rattle.little.specs.Little.{quad, word}
 use Rattle.net.specs.Ends.{dstOf, srcOf, startAt}
-use Rattle.file.specs.File.{backOf, edgeByte, edgesAt, edgesOf, operationsAt, operationsOf, operationTime, trailerAt}
+use Rattle.file_trailer.specs.File.{backOf, edgeByte, edgesAt, edgesOf, operationsAt, operationsOf, operationTime, trailerAt}
 use Rattle.refusal.specs.declared.Verdict.the-variants.{Refused}
 use Rattle.reader.proofs.Total.{lookOf}
 

@@ -6,8 +6,8 @@ use lib.ListN.{length, getD}
 use Rattle.little.specs.Little.{byteAt}
 use Rattle.marked.proofs.Decide.{eq?, both?, same?, each?}
 use Rattle.net.specs.Limits.{mostEdges, mostOperations}
-use Rattle.file.specs.Limits.{edgeBytes, longestFile, operationBytes, trailerBytes}
-use Rattle.file.specs.File.{trailerAt, operationsAt, operationsOf, edgesAt, edgesOf, backOf}
+use Rattle.file_trailer.specs.Limits.{edgeBytes, longestFile, operationBytes, trailerBytes}
+use Rattle.file_trailer.specs.File.{trailerAt, operationsAt, operationsOf, edgesAt, edgesOf, backOf}
 use Rattle.file.specs.Frame.{CountsKept, Laid, Signed, Sized, magic}
 use Rattle.judge.proofs.Deciding.{within?}
 

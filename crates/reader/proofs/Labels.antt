@@ -11,7 +11,7 @@ use Rattle.refusal.proofs.Asked.{judged-sound, sound-parts}
 use Rattle.net.specs.Plan.{Agree}
 use Rattle.net.specs.Rules.{graphRows}
 use Rattle.net.proofs.Agree.{agree-rows}
-use Rattle.file.specs.File.{planOf}
+use Rattle.file_trailer.specs.File.{planOf}
 use Rattle.file.specs.Frame.{frameRows, lookRows}
 use Rattle.file.specs.Labels.{SameButLabels, SameGraph}
 use Rattle.file.proofs.Labels.{labels-rows, plans-agree}

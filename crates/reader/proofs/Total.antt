@@ -15,7 +15,7 @@ use Rattle.net.specs.Limits.{mostEdges, mostOperations}
 use Rattle.net.specs.Plan.{Plan}
 use Rattle.net.specs.Ends.{pick}
 use Rattle.net.specs.Rules.{graphRows}
-use Rattle.file.specs.File.{operationsOf, edgesOf, planOf}
+use Rattle.file_trailer.specs.File.{operationsOf, edgesOf, planOf}
 use Rattle.file.specs.Frame.{CountsKept, Framed, Laid, Signed, Sized, frameRows, lookRows}
 use Rattle.file.proofs.Order.{framed-sound, refused-1, refused-2, refused-3, refused-4, sound-framed}
 use Rattle.judge.proofs.Deciding.{Verdicts, graph-verdict}

@@ -8,7 +8,7 @@ use Rattle.refusal.specs.declared.Verdict.{Verdict}
 use Rattle.refusal.specs.declared.Verdict.the-variants.{Accepted, Refused}
 use Rattle.net.specs.Limits.{mostEdges, mostOperations}
 use Rattle.net.specs.Plan.{Plan, rows}
-use Rattle.file.specs.File.{operationsOf, edgesOf, planOf}
+use Rattle.file_trailer.specs.File.{operationsOf, edgesOf, planOf}
 use Rattle.file.specs.Frame.{lookRows}
 use Rattle.reader_tables.specs.Filled.{Filled}
 use Rattle.reader.specs.declared.graph.Graph.{Graph}

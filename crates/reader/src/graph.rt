@@ -2,7 +2,7 @@
 use crate::read::blank;
 use crate::read::read;
 use file::frame::framed;
-use file::frame::numbers;
+use file_trailer::numbers;
 use judge::judge;
 use refusal::Refusal;
 use refusal::Verdict;

@@ -1,12 +1,12 @@
 // The graph of a file whose frame is right, and the graph of a file that is refused.
 use crate::graph::Graph;
-use file::frame::Trailer;
+use file_trailer::Trailer;
 use reader_tables::edges::column;
 use reader_tables::operations::times;
 ghost use Rattle.net.specs.Plan.{Plan};
-ghost use Rattle.file.specs.File.{edgesOf, operationsOf, planOf};
+ghost use Rattle.file_trailer.specs.File.{edgesOf, operationsOf, planOf};
 ghost use Rattle.reader.specs.Reply.{Shows};
-ghost use Rattle.file.specs.helpers.Trailer.{Opened};
+ghost use Rattle.file.specs.helpers.Opened.{Opened};
 
 // What the two tables hold.
 pub fn read(file: &[u8], t: Trailer) -> Graph

@@ -1,13 +1,13 @@
 // The edge table: each byte of the edges as an array.
 use file::EDGE;
-use file::frame::Trailer;
+use file_trailer::Trailer;
 use little::byte;
 use net::EDGES;
 ghost use mathlib.Core.Path.{_≡_};
 ghost use Prim.Native.Nat.{_<_};
 ghost use Rattle.net.specs.Limits.{mostEdges};
-ghost use Rattle.file.specs.File.{edgesOf, edgeByte};
-ghost use Rattle.file.specs.helpers.Trailer.{Opened};
+ghost use Rattle.file_trailer.specs.File.{edgesOf, edgeByte};
+ghost use Rattle.file.specs.helpers.Opened.{Opened};
 ghost use Rattle.reader_tables.specs.Filled.{Filled};
 
 // Byte k of edge e.

@@ -1,13 +1,13 @@
 // The operation table: the times as an array.
 use file::OPERATION;
-use file::frame::Trailer;
+use file_trailer::Trailer;
 use little::quad;
 use net::OPERATIONS;
 ghost use mathlib.Core.Path.{_≡_};
 ghost use Prim.Native.Nat.{_+_};
 ghost use Rattle.net.specs.Limits.{Within, mostOperations};
-ghost use Rattle.file.specs.File.{operationTime, operationsOf};
-ghost use Rattle.file.specs.helpers.Trailer.{Opened};
+ghost use Rattle.file_trailer.specs.File.{operationTime, operationsOf};
+ghost use Rattle.file.specs.helpers.Opened.{Opened};
 ghost use Rattle.reader_tables.specs.Filled.{Filled};
 
 // The time of operation i.

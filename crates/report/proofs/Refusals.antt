@@ -9,7 +9,7 @@ use Rattle.refusal.specs.declared.Refusal.{Refusal}
 use Rattle.net.specs.Limits.{Counted}
 use Rattle.net.specs.Plan.{Plan}
 use Rattle.net.specs.Rules.{graphRows}
-use Rattle.file.specs.File.{planOf}
+use Rattle.file_trailer.specs.File.{planOf}
 use Rattle.file.specs.Frame.{lookRows}
 
 -- A number and a place that take few digits.

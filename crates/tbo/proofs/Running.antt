@@ -12,7 +12,7 @@ use Rattle.tbo_sweep.specs.helpers.Raises.{SweptOver}
 use Rattle.tbo_sweep.proofs.Lifting.{lifts-up}
 use Rattle.tbo_round.specs.helpers.Chains.{Round, Tour, Turns, back}
 use Rattle.tbo_round.proofs.Chains.{Sweeps, back-in, comes-round, no-end, notes-of, sweeps-snoc}
-use Rattle.tbo.proofs.Chains.Sweeps.{begun}
+use Rattle.tbo_round.proofs.Chains.Sweeps.{begun}
 use Rattle.tbo_round.proofs.Steadies.{Steady, steady-start, steady-through}
 
 -- k sweeps from C have led to D and P.

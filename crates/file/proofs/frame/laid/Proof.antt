@@ -1,8 +1,9 @@
 -- Each return is one part of the rule that fails, or the whole of it; the order of the tables goes by cases.
+use Rattle.refusal.proofs.Answers.{denied, said, says-map}
 use Rattle.refusal.specs.helpers.Answers.{fails, holds}
 use native.Mathlib.Omega.{arith}
 use mathlib.Core.Logic.{_⊎_, inl, inr, ⊎-elim}
-use Rattle.file.specs.File.{trailerAt}
+use Rattle.file_trailer.specs.File.{trailerAt}
 use borrow.Author.Needs.{needs}
 use Rattle.file.proofs.frame.laid.Statement.{statement}
 use Rattle.file.proofs.frame.laid.Tie as tie
@@ -29,25 +30,26 @@ add-if2 c = search needs
 returns-2 : tie.Need-returns-2
 returns-2 c = fails (λ h. omega arith)
 
+behind-requires : tie.Need-behind-requires
+behind-requires c κs = search needs
+
 returns-3 : tie.Need-returns-3
 unfolding trailerAt
-returns-3 c = fails (λ h. ⊎-elim (λ p. omega arith) (λ p. omega arith) (h .order))
+returns-3 c =
+    let first = said (c .before .behind .ensures) (c .if3 .taken) in
+    holds (record { back = omega arith; filled = omega arith; order = inl (omega (arith, first .0), omega (arith, first .1)) })
+
+behind-requires-2 : tie.Need-behind-requires-2
+behind-requires-2 c κs = search needs
 
 returns-4 : tie.Need-returns-4
 unfolding trailerAt
-returns-4 c = holds (record { back = omega arith; filled = omega arith; order = inl (omega arith, omega arith) })
-
-returns-5 : tie.Need-returns-5
-unfolding trailerAt
-returns-5 c = fails (λ h. ⊎-elim (λ p. omega arith) (λ p. omega arith) (h .order))
-
-returns-6 : tie.Need-returns-6
-unfolding trailerAt
-returns-6 c = fails (λ h. ⊎-elim (λ p. omega arith) (λ p. omega arith) (h .order))
-
-returns-7 : tie.Need-returns-7
-unfolding trailerAt
-returns-7 c = holds (record { back = omega arith; filled = omega arith; order = inr (omega arith, omega arith) })
+returns-4 c =
+    let other = denied (c .before .before .behind .ensures) (c .before .if3 .left) in
+    says-map
+    (λ h. record { back = omega arith; filled = omega arith; order = inr (omega (arith, h .0), omega (arith, h .1)) })
+    (λ h. ⊎-elim (λ p. absurd (other (omega (arith, p .0), omega (arith, p .1)))) (λ p. (omega (arith, p .0), omega (arith, p .1))) (h .order))
+    (c .behind2 .ensures)
 
 pub laid-spec : {M : Type 1} → statement M
 laid-spec =
@@ -60,8 +62,7 @@ laid-spec =
     returns
     add-if2
     returns-2
+    behind-requires
     returns-3
-    returns-4
-    returns-5
-    returns-6
-    returns-7)
+    behind-requires-2
+    returns-4)

@@ -1,7 +1,7 @@
 -- The two bytes and the ending, one after the other.
 use Rattle.refusal.specs.helpers.Answers.{fails}
 use mathlib.Core.Path.{sym, _∙_}
-use Rattle.file.specs.File.{trailerAt}
+use Rattle.file_trailer.specs.File.{trailerAt}
 use Rattle.refusal.proofs.Answers.{says-map}
 use borrow.Author.Needs.{needs}
 use Rattle.file.proofs.frame.signed.Statement.{statement}

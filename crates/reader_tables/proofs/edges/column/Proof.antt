@@ -4,7 +4,7 @@ use Prim.Native.Nat.{_≤_, _-_}
 use native.Mathlib.Omega.{arith}
 use borrow.Author.Needs.{needs}
 use Rattle.reader_tables.specs.Filled.{Filled}
-use Rattle.file.specs.File.{edgeByte}
+use Rattle.file_trailer.specs.File.{edgeByte}
 use Rattle.reader_tables.proofs.edges.column.Statement.{statement}
 use Rattle.reader_tables.proofs.edges.column.Tie as tie
 

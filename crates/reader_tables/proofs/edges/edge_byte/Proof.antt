@@ -1,7 +1,7 @@
 -- The record of an edge lies inside the file.
 use native.Mathlib.Omega.{arith}
 use Rattle.file.proofs.Inside.{edge-inside}
-use Rattle.file.specs.File.{edgeByte}
+use Rattle.file_trailer.specs.File.{edgeByte}
 use borrow.Author.Needs.{needs}
 use Rattle.reader_tables.proofs.edges.edge_byte.Statement.{statement}
 use Rattle.reader_tables.proofs.edges.edge_byte.Tie as tie

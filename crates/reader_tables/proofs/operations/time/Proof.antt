@@ -1,7 +1,7 @@
 -- The record of an operation lies inside the file.
 use native.Mathlib.Omega.{arith}
 use Rattle.file.proofs.Inside.{operation-inside}
-use Rattle.file.specs.File.{operationTime}
+use Rattle.file_trailer.specs.File.{operationTime}
 use borrow.Author.Needs.{needs}
 use Rattle.reader_tables.proofs.operations.time.Statement.{statement}
 use Rattle.reader_tables.proofs.operations.time.Tie as tie

@@ -4,7 +4,7 @@ use Prim.Native.Nat.{_≤_, _-_, _+_}
 use native.Mathlib.Omega.{arith}
 use borrow.Author.Needs.{needs}
 use Rattle.reader_tables.specs.Filled.{Filled}
-use Rattle.file.specs.File.{operationTime}
+use Rattle.file_trailer.specs.File.{operationTime}
 use Rattle.reader_tables.proofs.operations.times.Statement.{statement}
 use Rattle.reader_tables.proofs.operations.times.Tie as tie
 

@@ -8,9 +8,9 @@ use Rattle.refusal.specs.Asking.{Judged}
 use Rattle.refusal.specs.declared.Verdict.{Verdict}
 use Rattle.refusal.proofs.Asked.{given-first, judged-given, judged-sound}
 use Rattle.net.specs.Rules.{graphRows}
-use Rattle.file.specs.File.{planOf}
+use Rattle.file_trailer.specs.File.{planOf}
 use Rattle.file.specs.Frame.{Framed, frameRows, lookRows}
-use Rattle.file.specs.helpers.Trailer.{Opened}
+use Rattle.file.specs.helpers.Opened.{Opened}
 use Rattle.file.proofs.Order.{sound-framed}
 use Rattle.reader.proofs.Accepting.{judged-shown, shown-counted}
 use Rattle.reader.proofs.graph.Graph.from_file.Statement.{statement}

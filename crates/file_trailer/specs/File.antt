@@ -4,7 +4,7 @@ use mathlib.Core.List.{List}
 use lib.ListN.{length}
 use Rattle.little.specs.Little.{byteAt, quad, word}
 use Rattle.net.specs.Plan.{Plan}
-use Rattle.file.specs.Limits.{edgeBytes, operationBytes, trailerBytes}
+use Rattle.file_trailer.specs.Limits.{edgeBytes, operationBytes, trailerBytes}
 
 -- The trailer stands at the end.
 unfoldable pub trailerAt : List ℕ → ℕ

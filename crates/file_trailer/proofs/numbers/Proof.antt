@@ -1,8 +1,8 @@
 -- Each number is the word that its definition names.
-use Rattle.file.specs.File.{backOf, edgesAt, edgesOf, operationsAt, operationsOf, trailerAt}
+use Rattle.file_trailer.specs.File.{backOf, edgesAt, edgesOf, operationsAt, operationsOf, trailerAt}
 use borrow.Author.Needs.{needs}
-use Rattle.file.proofs.frame.numbers.Statement.{statement}
-use Rattle.file.proofs.frame.numbers.Tie as tie
+use Rattle.file_trailer.proofs.numbers.Statement.{statement}
+use Rattle.file_trailer.proofs.numbers.Tie as tie
 
 sub-at : tie.Need-sub-at
 sub-at c = search needs
