@@ -14,7 +14,7 @@ use Rattle.waiting_graph.specs.declared.reply.Wait.{Wait}
 use Rattle.waiting.specs.Reply.{WaitReply}
 use Rattle.bounds_graph.specs.declared.reply.Bounds.{Bounds}
 use Rattle.bounds.specs.Reply.{BoundsReply}
-use Rattle.report.specs.declared.reply.Report.{Report}
+use Rattle.report_graph.specs.declared.reply.Report.{Report}
 use Rattle.report.specs.Reply.{ReportReply}
 use Rattle.amg.specs.Tables.{Tables, shownIn, valuesIn}
 use Rattle.amg_word.specs.Numbers.{boundsCount, boundsRefusal, reportCount, reportRefusal, waitCount, waitRefusal}

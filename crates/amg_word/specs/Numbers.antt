@@ -6,8 +6,8 @@ use Rattle.waiting_graph.specs.declared.reply.Wait.{Wait}
 use Rattle.waiting_graph.specs.declared.reply.Wait.the-variants.{Refused as WaitRefused, Waits}
 use Rattle.bounds_graph.specs.declared.reply.Bounds.{Bounds}
 use Rattle.bounds_graph.specs.declared.reply.Bounds.the-variants.{Bounded, Refused as BoundsRefused}
-use Rattle.report.specs.declared.reply.Report.{Report}
-use Rattle.report.specs.declared.reply.Report.the-variants.{Refused as ReportRefused, Written}
+use Rattle.report_graph.specs.declared.reply.Report.{Report}
+use Rattle.report_graph.specs.declared.reply.Report.the-variants.{Refused as ReportRefused, Written}
 
 -- What `wait` answers.
 abbrev pub waitRefusal : Wait → Refusal

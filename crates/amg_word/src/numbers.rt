@@ -2,7 +2,7 @@
 use bounds_graph::reply::Bounds;
 use refusal::Refusal;
 use refusal::none;
-use report::reply::Report;
+use report_graph::reply::Report;
 use waiting_graph::reply::Wait;
 ghost use mathlib.Core.Path.{_≡_};
 ghost use Rattle.amg_word.specs.Numbers.{boundsCount, boundsRefusal, reportRefusal, waitCount, waitRefusal};

@@ -2,8 +2,8 @@
 use crate::numbers;
 use bounds_graph::reply::Bounds;
 use refusal::Refusal;
-use report::reply;
-use report::reply::Report;
+use report_graph::reply;
+use report_graph::reply::Report;
 use waiting_graph::reply::Wait;
 ghost use mathlib.Core.Path.{_≡_};
 ghost use Prim.Native.Nat.{min};

@@ -23,7 +23,7 @@ use Rattle.circuit.specs.Chosen.{Chosen}
 use Rattle.bounds_graph.specs.declared.reply.Measures.{Measures}
 use Rattle.report.specs.Reply.{ReportReply}
 use Rattle.report_graph.specs.Numbers.{Numbers, reportBytes, textOf}
-use Rattle.report.specs.declared.reply.Report.the-variants.{Written}
+use Rattle.report_graph.specs.declared.reply.Report.the-variants.{Written}
 
 -- The refusal k at x.
 abbrev pub by : ℕ → ℕ → Refusal

@@ -10,7 +10,7 @@ use casts::quad_long;
 use reader::graph::Graph;
 use refusal::Verdict;
 use refusal::none;
-use report::reply::Report;
+use report_graph::reply::Report;
 use stepping_graph::reply::end_refusal;
 use stepping_graph::reply::start_refusal;
 use stepping_graph::reply::step_refusal;

@@ -10,7 +10,7 @@ use Rattle.pen_put.specs.Lines.{Put}
 use Rattle.report_text.specs.Text.{headText, reportText}
 use Rattle.report.specs.Demand.{WaitsPrinted}
 use Rattle.report.specs.Reply.{ReportReply, written}
-use Rattle.report.specs.declared.reply.Report.the-variants.{Written}
+use Rattle.report_graph.specs.declared.reply.Report.the-variants.{Written}
 use Rattle.report.proofs.Theorems.{numbers-demand, reported-good}
 
 -- Text stored at the beginning of a buffer with room for it.

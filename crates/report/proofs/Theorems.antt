@@ -28,10 +28,11 @@ use Rattle.bounds_graph.specs.declared.reply.Measures.{Measures}
 use Rattle.pen_put.proofs.PutLaws.{series-same, put-length, put-unique}
 use Rattle.report_text.specs.Text.{refusedLine, reportText, waitLine, waitLines, waitOf}
 use Rattle.report_text.proofs.FitLaws.{refused-fits}
-use Rattle.report.specs.Reply.{ReportReply, lengthOf, refused, reportRows, roomRows, short, written}
+use Rattle.report.specs.Reply.{ReportReply, refused, reportRows, roomRows, short, written}
+use Rattle.report_graph.specs.Length.{lengthOf}
 use Rattle.report_graph.specs.Numbers.{Numbers, reportBytes, textOf}
-use Rattle.report.specs.declared.reply.Report.{Report}
-use Rattle.report.specs.declared.reply.Report.the-variants.{Refused, Written}
+use Rattle.report_graph.specs.declared.reply.Report.{Report}
+use Rattle.report_graph.specs.declared.reply.Report.the-variants.{Refused, Written}
 use Rattle.report.proofs.Refusals.{given-small}
 use Rattle.report_graph.proofs.Small.{numbers-fit}
 

@@ -12,8 +12,8 @@ use Rattle.bounds_graph.specs.declared.reply.Measures.{Measures}
 use Rattle.pen_put.specs.Lines.{Put}
 use Rattle.report_text.specs.Text.{refusedLine}
 use Rattle.report_graph.specs.Numbers.{Numbers, reportBytes, textOf}
-use Rattle.report.specs.declared.reply.Report.{Report}
-use Rattle.report.specs.declared.reply.Report.the-variants.{Refused, Written}
+use Rattle.report_graph.specs.declared.reply.Report.{Report}
+use Rattle.report_graph.specs.declared.reply.Report.the-variants.{Refused, Written}
 
 -- What report asks before it looks at the file: 14.
 abbrev pub roomRows : List ℕ → List Ask
@@ -31,8 +31,3 @@ pub data ReportReply (f before : List ℕ) : Report → List ℕ → Type 0 wher
       → Put before 0 (refusedLine (r .number) (r .place)) after len → ReportReply f before (Refused r len) after
   written : {g : Graph} {v : Measures} {ring : List ℕ} {wait : ℕ → ℕ} {len : ℕ} {after : List ℕ} → Sound (roomRows before) → Ends f reportRows (accepted g)
       → Numbers (shown g) v ring wait → Put before 0 (textOf (shown g) v ring wait) after len → ReportReply f before (Written len) after
-
--- How many bytes a reply has written.
-abbrev pub lengthOf : Report → ℕ
-lengthOf (Written len) = len
-lengthOf (Refused r len) = len

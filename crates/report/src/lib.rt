@@ -1,11 +1,9 @@
 // `report`: the text of a file's report, in a lent buffer.
-pub mod reply;
-
 use reader::look;
 use refusal::Refusal;
 use refusal::Verdict;
-use reply::Report;
 use report_graph::answer::answer;
+use report_graph::reply::Report;
 use report_lines::write_refused;
 ghost use Rattle.report.specs.Reply.{ReportReply};
 

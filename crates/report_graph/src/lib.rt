@@ -1,3 +1,4 @@
-// The report of a graph that look has accepted, over its rows.
+// The report of a graph that look has accepted, over its rows, and what `report` replies.
 pub mod answer;
+pub mod reply;
 mod waits;

@@ -8,7 +8,7 @@ const INPUT: usize = Graph::LENGTH + 1;
 fn print(file: &[u8]) {
     let mut text = [0u8; report::ROOM];
     let reply = report::report(file, &mut text);
-    let length = report::reply::length(reply);
+    let length = report_graph::reply::length(reply);
     io::write_all(1, &text[..length]);
 }
 

@@ -1,7 +1,7 @@
 // What `report` replies; length is how many bytes it has written.
 use refusal::Refusal;
 ghost use mathlib.Core.Path.{_≡_};
-ghost use Rattle.report.specs.Reply.{lengthOf};
+ghost use Rattle.report_graph.specs.Length.{lengthOf};
 
 pub enum Report {
     Written { length: usize },
