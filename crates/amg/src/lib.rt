@@ -1,5 +1,4 @@
 // The calls for C and for Rust, declared in include/amg.h. Each makes one call of the crates below, and its word tells that call's reply.
-
 use amg_word::word::bounds_word;
 use amg_word::word::pack;
 use amg_word::word::report_word;

@@ -1,5 +1,4 @@
 // `bounds`: TBO with its circuit, TBIO, TT and TCE of a file's graph.
-
 use bounds_graph::answer::answer;
 use bounds_graph::reply::Bounds;
 use reader::look;

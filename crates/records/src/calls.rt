@@ -1,13 +1,13 @@
 // The seven calls, each with its line: the name, the refusal's number and place, the values, and the lent memory afterwards.
-use crate::print::bytes;
-use crate::print::entries;
-use crate::print::head;
-use crate::print::number;
-use crate::print::word;
 use bounds_graph::reply::Bounds;
 use casts::byte_long;
 use casts::quad_long;
 use reader::graph::Graph;
+use records_print::bytes;
+use records_print::entries;
+use records_print::head;
+use records_print::number;
+use records_print::word;
 use refusal::Verdict;
 use refusal::none;
 use report_graph::reply::Report;

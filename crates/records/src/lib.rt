@@ -1,8 +1,7 @@
 // Records of calls (docs/CALLS.md): each is played, and printed as a line. For programs that try the calls.
 mod calls;
-mod print;
 
-use print::word;
+use records_print::word;
 ghost use mathlib.Core.Path.{_≡_};
 ghost use Prim.Native.Nat.{_<_, _≤_};
 ghost use lib.ListN.{length};

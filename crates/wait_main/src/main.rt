@@ -1,9 +1,7 @@
 // For each file on standard input (two bytes of length, then the file): the wait of every transition, from the start and from two markings that are reached.
 // Each is tried by firing: the lowest other transition that is enabled fires for as long as there is one, and then the transition asked for is enabled.
-mod keep;
-
-use keep::advance;
-use keep::keeps;
+use keeping::advance;
+use keeping::keeps;
 use net::EDGES;
 use net::PLACES;
 use net::start::start_marking;

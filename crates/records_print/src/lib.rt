@@ -1,7 +1,7 @@
 // What a line is made of: words, numbers behind a blank, and the lent memory, which ends it.
 use casts::byte_word;
 use refusal::Refusal;
-ghost use Rattle.records.specs.Page.{Page, Roomy};
+ghost use Rattle.records_print.specs.Page.{Page, Roomy};
 
 // Numbers of the memory are gathered here, so that a long one takes few writes.
 const PAGE: usize = 4096;

@@ -4,8 +4,8 @@ use borrow.Author.Needs.{needs}
 use Rattle.pen_put.specs.Lines.{item}
 use Rattle.pen_put.proofs.DigitLaws.{digits-short}
 use Rattle.pen_put.proofs.PutLaws.{put-length, put-within}
-use Rattle.records.proofs.print.put.Statement.{statement}
-use Rattle.records.proofs.print.put.Tie as tie
+use Rattle.records_print.proofs.put.Statement.{statement}
+use Rattle.records_print.proofs.put.Tie as tie
 
 turn-requires : tie.Need-turn-requires
 turn-requires c κs = search needs

@@ -3,8 +3,8 @@ use mathlib.Core.Path.{sym}
 use native.Mathlib.Omega.{arith}
 use lib.Seq.{length-take-le}
 use borrow.Author.Needs.{needs}
-use Rattle.records.proofs.print.out.Statement.{statement}
-use Rattle.records.proofs.print.out.Tie as tie
+use Rattle.records_print.proofs.out.Statement.{statement}
+use Rattle.records_print.proofs.out.Tie as tie
 
 slice-aggregate-word : tie.Need-slice-aggregate-word
 slice-aggregate-word c = sym (length-take-le _ _ (omega arith))
