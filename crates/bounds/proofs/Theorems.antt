@@ -15,8 +15,8 @@ use Rattle.reader.specs.declared.graph.Look.{Look}
 use Rattle.reader.proofs.Accepting.{accepted-good}
 use Rattle.reader.proofs.Determined.{look-determined}
 use Rattle.reader.proofs.Outcomes.{outcome-carries, outcome-determined}
-use Rattle.paths.proofs.Passing.{good-passing}
-use Rattle.paths.proofs.Reached.{Reached}
+use Rattle.paths_finish.proofs.Passing.{good-passing}
+use Rattle.paths_finish.proofs.Reached.{Reached}
 use Rattle.paths.proofs.Order.{some-path, tbio-most, tbio-unique, tce-unique, tt-most, tt-unique}
 use Rattle.circuit.specs.Chosen.{Handed}
 use Rattle.circuit.proofs.Unique.{handed-unique}

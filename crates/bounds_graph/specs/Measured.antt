@@ -3,7 +3,7 @@ use mathlib.Core.List.{List}
 use Prim.Native.Nat.{ℕ}
 use Rattle.net.specs.Plan.{Plan}
 use Rattle.net.specs.Graph.{netOf, startOf, timesOf}
-use Rattle.paths.specs.Longest.{TBIO, TCE, TT}
+use Rattle.paths_finish.specs.Longest.{TBIO, TCE, TT}
 use Rattle.tbo.specs.TBO.{TBO}
 use Rattle.circuit.specs.Chosen.{Handed}
 use Rattle.bounds_graph.specs.declared.reply.Measures.{Measures}

@@ -7,7 +7,7 @@ use Rattle.marked.specs.Wait.{others}
 use Rattle.net.specs.Ends.{dstOf, srcOf, startAt, timeOf}
 use Rattle.file_trailer.specs.File.{backOf, edgeByte, edgesAt, edgesOf, operationsAt, operationsOf, operationTime, trailerAt}
 use Rattle.reader.proofs.Total.{look-total, lookOf}
-use Rattle.paths.specs.Modified.{nodeTime}
+use Rattle.paths_finish.specs.Modified.{nodeTime}
 use Rattle.pen_put.specs.Digits.{digits, digitsBy}
 use Rattle.pen_put.specs.Lines.{item, itemLine, lineEnd, pairLine}
 use Rattle.report_text.specs.Text.{boundLines, circuitLine, headText, opsLine, reportText, ringPlaces, waitLines}

@@ -10,8 +10,8 @@ use lib.ListN.{length, List·getD-eq-default}
 use Rattle.marked.specs.Sums.{sum}
 use Rattle.marked.proofs.Decide.{both?, each?, eq?, given?, le?, passes}
 use Rattle.net.specs.Plan.{Plan}
-use Rattle.paths.specs.Modified.{Link, Path, begins, ends, go, nodeTime, pathTime, stays, stop}
-use Rattle.paths.specs.Longest.{Longest}
+use Rattle.paths_finish.specs.Modified.{Link, Path, begins, ends, go, nodeTime, pathTime, stays, stop}
+use Rattle.paths_finish.specs.Longest.{Longest}
 use Rattle.cases.proofs.Searching.{Known, finishes, first, list, number}
 use Rattle.cases.proofs.Trying.{Tried, and, fails, or, so, try}
 

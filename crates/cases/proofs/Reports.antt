@@ -8,7 +8,7 @@ use lib.Seq.{sets}
 use Rattle.marked.specs.Net.{at}
 use Rattle.marked.proofs.Decide.{both?, eq?, le?, same?}
 use Rattle.net.specs.Plan.{Plan}
-use Rattle.paths.specs.Longest.{DataSink, Sink, TBIO, TT, effort}
+use Rattle.paths_finish.specs.Longest.{DataSink, Sink, TBIO, TT, effort}
 use Rattle.pen_put.specs.Lines.{Put}
 use Rattle.bounds_graph.specs.declared.reply.Measures.{Measures}
 use Rattle.report_graph.specs.Numbers.{Numbers}

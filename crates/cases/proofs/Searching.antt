@@ -6,7 +6,7 @@ use lib.Dec.{eqb, ltb}
 use lib.ListN.{getD, replicate, set}
 use Rattle.marked.specs.Net.{Net}
 use Rattle.net.specs.Plan.{Plan}
-use Rattle.paths.specs.Modified.{nodeTime}
+use Rattle.paths_finish.specs.Modified.{nodeTime}
 
 -- f at 0, 1, .. below n, one after the other.
 abbrev over : {A : Type 0} → (ℕ → A → A) → ℕ → A → A

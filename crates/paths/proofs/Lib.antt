@@ -1,10 +1,2 @@
-pub mod Passing
-pub mod Links
-pub mod Distinct
-pub mod Reached
-pub mod Bounded
-pub mod Offers
-pub mod Sweeps
-pub mod Settling
 pub mod Sinks
 pub mod Order

@@ -4,12 +4,12 @@ use mathlib.Core.List.{List}
 use Prim.Native.Nat.{_+_, _≤_, ℕ}
 use native.Mathlib.Omega.{arith}
 use Rattle.net.specs.Plan.{Plan, rows}
-use Rattle.paths.specs.Longest.{Longest, TBIO, TCE, TT}
+use Rattle.paths_finish.specs.Longest.{Longest, TBIO, TCE, TT}
 use Rattle.paths.specs.helpers.Answers.{SumsOf}
 use Rattle.paths.specs.declared.Sums.{Sums}
-use Rattle.paths.proofs.Distinct.{path-effort}
-use Rattle.paths.proofs.Reached.{Reached, reached}
-use Rattle.paths.proofs.Passing.{Passing}
+use Rattle.paths_finish.proofs.Distinct.{path-effort}
+use Rattle.paths_finish.proofs.Reached.{Reached, reached}
+use Rattle.paths_finish.proofs.Passing.{Passing}
 
 -- There is a path from the source to the data sink: TBIO and TT are never over nothing.
 pub some-path : {g : Plan} → Passing g → Reached g (g .operations + 1)

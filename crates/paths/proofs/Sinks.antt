@@ -9,12 +9,12 @@ use Rattle.marked.specs.Sums.{sum}
 use Rattle.marked.specs.Net.{at}
 use Rattle.marked.proofs.Pigeonhole.{sum-append}
 use Rattle.net.specs.Plan.{Plan, rows, timeAt}
-use Rattle.paths.specs.Modified.{Link, Path, begins, ends, go, nodeTime, pathTime, stays, stop}
-use Rattle.paths.specs.Longest.{Sink, TT}
-use Rattle.paths.specs.helpers.Answers.{Finished}
-use Rattle.paths.specs.helpers.Finishing.{Later, Latest}
-use Rattle.paths.proofs.Links.{sink-ends, then, time-sink}
-use Rattle.paths.proofs.Passing.{Passing}
+use Rattle.paths_finish.specs.Modified.{Link, Path, begins, ends, go, nodeTime, pathTime, stays, stop}
+use Rattle.paths_finish.specs.Longest.{Sink, TT}
+use Rattle.paths_finish.specs.helpers.Finishing.{Finished}
+use Rattle.paths.specs.helpers.Latest.{Later, Latest}
+use Rattle.paths_finish.proofs.Links.{sink-ends, then, time-sink}
+use Rattle.paths_finish.proofs.Passing.{Passing}
 
 pub latest-none : (n : ℕ) (from mark d : List ℕ) → Latest n from mark d 0 (at d (n + 1))
 latest-none n from mark d = record { sink = omega arith; fresh = λ j h m. absurd (omega arith); is = inl refl }

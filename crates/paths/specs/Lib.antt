@@ -1,3 +1,1 @@
-pub mod Modified
-pub mod Longest
 pub mod helpers

@@ -1,3 +1,3 @@
 -- Words between functions beneath the calls; no promise needs them.
 pub mod Answers
-pub mod Finishing
+pub mod Latest

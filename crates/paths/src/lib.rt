@@ -1,9 +1,9 @@
 // TBIO, TT and TCE of a graph given by rows: the longest paths of the modified graph of 000, Definition 12, and the sum of all times.
-use finish::finishes;
-use finish::node;
 use net::EDGES;
 use net::NODES;
 use net::OPERATIONS;
+use paths_finish::finishes;
+use paths_finish::node;
 ghost use mathlib.Core.Path.{_≡_};
 ghost use Prim.Native.Nat.{ℕ, _+_, _<_, _≤_};
 ghost use Rattle.marked.specs.Sums.{upto};
@@ -12,9 +12,7 @@ ghost use Rattle.net.specs.Plan.{timeAt};
 ghost use Rattle.net.specs.Limits.{longestTime, mostEdges, mostOperations};
 ghost use Rattle.net.specs.Good.{Good};
 ghost use Rattle.paths.specs.helpers.Answers.{SumsOf};
-ghost use Rattle.paths.specs.helpers.Finishing.{Later, Latest};
-
-pub mod finish;
+ghost use Rattle.paths.specs.helpers.Latest.{Later, Latest};
 
 // A path's sum is at most 40,000,000, and would be at most 120,000,000 with three times an operation: u32 has the room.
 pub struct Sums {

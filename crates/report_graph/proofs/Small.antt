@@ -17,8 +17,8 @@ use Rattle.net.specs.Good.{Good}
 use Rattle.net.proofs.Shapes.{wired-proper}
 use Rattle.net.proofs.Good.{good-short, marked-few}
 use Rattle.tbo.specs.TBO.{TBO}
-use Rattle.paths.proofs.Passing.{good-passing}
-use Rattle.paths.proofs.Bounded.{effort-most}
+use Rattle.paths_finish.proofs.Passing.{good-passing}
+use Rattle.paths_finish.proofs.Bounded.{effort-most}
 use Rattle.paths.proofs.Order.{tbio-most, tt-most}
 use Rattle.bounds_graph.specs.declared.reply.Measures.{Measures}
 use Rattle.report_text.specs.helpers.Limits.{Printable}

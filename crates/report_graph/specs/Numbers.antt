@@ -5,7 +5,7 @@ use Rattle.marked.specs.Wait.{WaitSum}
 use Rattle.net.specs.Plan.{Plan}
 use Rattle.net.specs.Graph.{netOf, startOf, timesOf}
 use Rattle.tbo.specs.TBO.{TBO}
-use Rattle.paths.specs.Longest.{TBIO, TCE, TT}
+use Rattle.paths_finish.specs.Longest.{TBIO, TCE, TT}
 use Rattle.circuit.specs.Chosen.{Chosen}
 use Rattle.bounds_graph.specs.declared.reply.Measures.{Measures}
 use Rattle.report_text.specs.Text.{reportText}

@@ -6,7 +6,7 @@ use Rattle.net.specs.Limits.{longestTime}
 use denote.Ref.{now}
 use Rattle.marked.specs.Sums.{upto}
 use Rattle.net.specs.Plan.{timeAt}
-use Rattle.paths.proofs.Bounded.{times-more, times-most, times-none}
+use Rattle.paths_finish.proofs.Bounded.{times-more, times-most, times-none}
 use Rattle.paths.proofs.all_times.Statement.{statement}
 use Rattle.paths.proofs.all_times.Tie as tie
 

@@ -3,7 +3,7 @@ use Rattle.paths.proofs.Sinks.{latest-more, latest-none, latest-to}
 use Prim.Native.Nat.{_-_, _≤_}
 use native.Mathlib.Omega.{arith}
 use denote.Ref.{now}
-use Rattle.paths.specs.helpers.Finishing.{Latest}
+use Rattle.paths.specs.helpers.Latest.{Latest}
 use Rattle.paths.proofs.latest.Statement.{statement}
 use Rattle.paths.proofs.latest.Tie as tie
 

@@ -1,5 +1,5 @@
 -- The finishes settle, and the three sums are read off them.
-use Rattle.paths.proofs.Passing.{good-passing}
+use Rattle.paths_finish.proofs.Passing.{good-passing}
 -- `path_sums` reads TBIO at the data sink, TT at the last sink, and TCE off the times.
 use Prim.Native.Nat.{_+_}
 use native.Mathlib.Omega.{arith}

@@ -8,10 +8,10 @@ use lib.ListN.{length}
 use Rattle.marked.specs.Lists.{All}
 use Rattle.marked.proofs.Pigeonhole.{pigeonhole}
 use Rattle.net.specs.Plan.{Plan}
-use Rattle.paths.specs.Modified.{Link, Path, begins, go, stays, stop}
-use Rattle.paths.proofs.Links.{then}
-use Rattle.paths.proofs.Distinct.{path-distinct}
-use Rattle.paths.proofs.Passing.{Passing}
+use Rattle.paths_finish.specs.Modified.{Link, Path, begins, go, stays, stop}
+use Rattle.paths_finish.proofs.Links.{then}
+use Rattle.paths_finish.proofs.Distinct.{path-distinct}
+use Rattle.paths_finish.proofs.Passing.{Passing}
 
 -- A path from the source to v.
 pub record Reached (g : Plan) (v : ℕ) : Type 0 where

@@ -18,11 +18,11 @@ use Rattle.net.specs.Plan.{Plan}
 use Rattle.net.specs.Ends.{readOf, writeOf}
 use Rattle.net.specs.Graph.{netOf, startOf}
 use Rattle.net.proofs.Shapes.{dst-op, full-dst, full-src, full-start, src-op, start-ring}
-use Rattle.paths.specs.Modified.{Path, nodeTime, pathTime}
-use Rattle.paths.specs.Modified as modified
-use Rattle.paths.specs.Longest.{effort}
-use Rattle.paths.proofs.Links.{link-enters, link-leaves, path-within, sink-ends, time-operation, time-sink, time-source}
-use Rattle.paths.proofs.Passing.{Passing}
+use Rattle.paths_finish.specs.Modified.{Path, nodeTime, pathTime}
+use Rattle.paths_finish.specs.Modified as modified
+use Rattle.paths_finish.specs.Longest.{effort}
+use Rattle.paths_finish.proofs.Links.{link-enters, link-leaves, path-within, sink-ends, time-operation, time-sink, time-source}
+use Rattle.paths_finish.proofs.Passing.{Passing}
 
 -- One place more in front of a walk, its ends given by other words.
 step : {g : Net} {a b c : ℕ} {ps : List ℕ} (p : ℕ) → p < g .places → g .src p ≡ a → g .dst p ≡ b → Walk g b c ps → Walk g a c (p ∷ ps)

@@ -2,12 +2,12 @@
 use Prim.Native.Nat.{_*_, _-_}
 use native.Mathlib.Omega.{arith}
 use Rattle.net.specs.Plan.{rows}
-use Rattle.paths.specs.Longest.{effort}
+use Rattle.paths_finish.specs.Longest.{effort}
 use Rattle.marked.specs.Sums.{total}
-use Rattle.paths.specs.helpers.Finishing.{Backed}
-use Rattle.paths.proofs.Bounded.{entries-most}
-use Rattle.paths.proofs.finish.settle.Statement.{statement}
-use Rattle.paths.proofs.finish.settle.Tie as tie
+use Rattle.paths_finish.specs.helpers.Finishing.{Backed}
+use Rattle.paths_finish.proofs.Bounded.{entries-most}
+use Rattle.paths_finish.proofs.settle.Statement.{statement}
+use Rattle.paths_finish.proofs.settle.Tie as tie
 
 abbrev Inv-loop : tie.InvT-loop
 Inv-loop n e times from to mark buffers finish₀ finish = Backed n e times from to mark buffers finish

@@ -3,10 +3,10 @@ use mathlib.Core.Path.{sym}
 use native.Mathlib.Omega.{arith}
 use denote.Ref.{now}
 use Rattle.net.specs.Plan.{timeAt}
-use Rattle.paths.proofs.Links.{time-operation, time-sink, time-source}
+use Rattle.paths_finish.proofs.Links.{time-operation, time-sink, time-source}
 use borrow.Author.Needs.{needs}
-use Rattle.paths.proofs.finish.node_time.Statement.{statement}
-use Rattle.paths.proofs.finish.node_time.Tie as tie
+use Rattle.paths_finish.proofs.node_time.Statement.{statement}
+use Rattle.paths_finish.proofs.node_time.Tie as tie
 
 sub-result : tie.Need-sub-result
 sub-result c = search needs

@@ -1,13 +1,13 @@
 -- An edge offers its target a later finish, or none.
-use Rattle.paths.proofs.Passing.{good-passing}
+use Rattle.paths_finish.proofs.Passing.{good-passing}
 -- `raise` lifts the target to the edge's doneBy, which a path takes and is no more than all operations take.
-use Rattle.paths.proofs.Offers.{offered, origin-in, read-marked, read-unmarked, target-in}
-use Rattle.paths.proofs.Sweeps.{lifted-as}
+use Rattle.paths_finish.proofs.Offers.{offered, origin-in, read-marked, read-unmarked, target-in}
+use Rattle.paths_finish.proofs.Sweeps.{lifted-as}
 use native.Mathlib.Omega.{arith}
-use Rattle.paths.proofs.Bounded.{chain-most, effort-most}
+use Rattle.paths_finish.proofs.Bounded.{chain-most, effort-most}
 use borrow.Author.Needs.{needs}
-use Rattle.paths.proofs.finish.raise.Statement.{statement}
-use Rattle.paths.proofs.finish.raise.Tie as tie
+use Rattle.paths_finish.proofs.raise.Statement.{statement}
+use Rattle.paths_finish.proofs.raise.Tie as tie
 
 element-copy-out-node : tie.Need-element-copy-out-node
 element-copy-out-node c = search needs

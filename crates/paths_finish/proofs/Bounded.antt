@@ -9,10 +9,10 @@ use Rattle.marked.specs.Sums.{sum, total, upto}
 use Rattle.marked.specs.Net.{at}
 use Rattle.marked.proofs.Tallies.{upto-most}
 use Rattle.net.specs.Plan.{Plan, rows, timeAt}
-use Rattle.paths.specs.Longest.{effort}
-use Rattle.paths.specs.helpers.Finishing.{Backed, PathTo}
-use Rattle.paths.proofs.Distinct.{path-effort}
-use Rattle.paths.proofs.Passing.{Passing, good-passing}
+use Rattle.paths_finish.specs.Longest.{effort}
+use Rattle.paths_finish.specs.helpers.Finishing.{Backed, PathTo}
+use Rattle.paths_finish.proofs.Distinct.{path-effort}
+use Rattle.paths_finish.proofs.Passing.{Passing, good-passing}
 
 -- The times of the operations, one by one as they are added up.
 pub times-none : (f : ℕ → ℕ) → upto f 0 ≡ 0

@@ -6,8 +6,8 @@ use native.Mathlib.Omega.{arith}
 use borrow.Author.Tests.{le-leb, le-ltb, lt-leb, lt-ltb}
 use Rattle.marked.specs.Lists.{All}
 use Rattle.net.specs.Plan.{Plan}
-use Rattle.paths.specs.Modified.{Link, Path, begins, ends, go, nodeTime, stays, stop}
-use Rattle.paths.proofs.Passing.{Passing}
+use Rattle.paths_finish.specs.Modified.{Link, Path, begins, ends, go, nodeTime, stays, stop}
+use Rattle.paths_finish.proofs.Passing.{Passing}
 
 module _ {g : Plan} (ok : Passing g) where
   -- A link leaves the source or an operation,

@@ -1,21 +1,18 @@
 -- What raising entries edge by edge does to an array of finishes.
 use mathlib.Core.Path.{_≡_}
-use mathlib.Core.Logic.{_⊎_}
 use mathlib.Core.Bool.{Bool, false, true}
 use mathlib.Core.List.{List}
 use Prim.Native.Nat.{_+_, _<_, _≤_, ℕ}
 use lib.Dec.{eqb}
 use lib.ListN.{length, set}
 use Rattle.marked.specs.Net.{at}
+use Rattle.net.specs.Limits.{mostNodes}
 use Rattle.net.specs.Plan.{Plan, rows, timeAt}
 use Rattle.net.specs.Ends.{pick}
 use Rattle.net.specs.Good.{Good}
 use Rattle.marked.specs.Sums.{total}
-use Rattle.paths.specs.Modified.{Path, nodeTime, pathTime}
-
--- The most nodes: the source, the operations and the sink.
-abbrev pub mostNodes : ℕ
-mostNodes = 42
+use Rattle.paths_finish.specs.Modified.{Path, nodeTime, pathTime}
+use Rattle.paths_finish.specs.Longest.{Longest}
 
 -- A path of the modified graph from some node to v takes x.
 pub record PathTo (g : Plan) (v x : ℕ) : Type 0 where
@@ -56,14 +53,7 @@ pub record AllDone (n e : ℕ) (times from to mark buffers d : List ℕ) : Type 
   pub backed : Backed n e times from to mark buffers d
   pub settled : NoneLater n times from to mark e d
 
--- r is the larger of the two, or the first where there is no mark.
-pub record Later (most mark x r : ℕ) : Type 0 where
-  pub first : most ≤ r
-  pub other : 1 ≤ mark → x ≤ r
-  pub is : (r ≡ most) ⊎ ((1 ≤ mark) × (r ≡ x))
-
--- r is the largest entry of the data sink and of the origins of the marked edges among the first k.
-pub record Latest (n : ℕ) (from mark finish : List ℕ) (k r : ℕ) : Type 0 where
-  pub sink : at finish (n + 1) ≤ r
-  pub fresh : (j : ℕ) → j < k → 1 ≤ at mark j → at finish (at from j) ≤ r
-  pub is : (r ≡ at finish (n + 1)) ⊎ ((j : ℕ) × (j < k) × (1 ≤ at mark j) × (r ≡ at finish (at from j)))
+-- Entry v of finish is the largest sum on a path to node v, for every node of the graph: when its operation is done, if nothing but data is waited for.
+pub record Finished (n e : ℕ) (times from to mark buffers finish : List ℕ) : Type 0 where
+  pub long : length finish ≡ mostNodes
+  pub each : (v : ℕ) → v ≤ n + 1 → Longest (rows n e times from to mark buffers) (λ (b : ℕ). b ≡ v) (at finish v)

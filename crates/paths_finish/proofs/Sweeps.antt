@@ -8,8 +8,8 @@ use native.Mathlib.Omega.{arith}
 use lib.ListN.{length, set}
 use Rattle.marked.specs.Sums.{sum, total}
 use Rattle.marked.specs.Net.{at}
-use Rattle.paths.specs.helpers.Finishing.{Backed, Lifted, EdgesSwept, doneBy, kept, lifted}
-use Rattle.paths.proofs.Offers.{inside, lifted-backed}
+use Rattle.paths_finish.specs.helpers.Finishing.{Backed, Lifted, EdgesSwept, doneBy, kept, lifted}
+use Rattle.paths_finish.proofs.Offers.{inside, lifted-backed}
 
 total-rises : (d : List ℕ) (v x : ℕ) → v < length d → at d v < x → total d < total (set d v x)
 unfolding sum

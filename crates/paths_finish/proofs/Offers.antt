@@ -13,9 +13,9 @@ use Rattle.marked.proofs.Fresh.{zeros}
 use Rattle.marked.proofs.Pigeonhole.{sum-append}
 use Rattle.net.specs.Good.{Good}
 use Rattle.net.specs.Plan.{rows, timeAt}
-use Rattle.paths.specs.Modified.{begins, go, nodeTime, stays, stop}
-use Rattle.paths.specs.helpers.Finishing.{Backed, PathTo, doneBy}
-use Rattle.paths.proofs.Links.{then}
+use Rattle.paths_finish.specs.Modified.{begins, go, nodeTime, stays, stop}
+use Rattle.paths_finish.specs.helpers.Finishing.{Backed, PathTo, doneBy}
+use Rattle.paths_finish.proofs.Links.{then}
 
 -- A path from a node to itself takes nothing: so the entries may begin at 0.
 pub begun : {n e : ℕ} {times from to mark buffers : List ℕ} → Good n e times from to mark buffers → Backed n e times from to mark buffers (replicate 42 0)

@@ -8,13 +8,12 @@ use Rattle.marked.specs.Sums.{sum}
 use Rattle.marked.specs.Net.{at}
 use Rattle.marked.proofs.Pigeonhole.{sum-append}
 use Rattle.net.specs.Plan.{Plan, rows, timeAt}
-use Rattle.paths.specs.Modified.{Path, begins, ends, go, nodeTime, pathTime, stays, stop}
-use Rattle.paths.specs.helpers.Answers.{Finished}
-use Rattle.paths.specs.helpers.Finishing.{AllDone}
-use Rattle.paths.proofs.Links.{sink-ends, source-begins, then}
-use Rattle.paths.proofs.Reached.{reached}
-use Rattle.paths.proofs.Offers.{offer-marked, offer-unmarked}
-use Rattle.paths.proofs.Passing.{Passing, good-passing}
+use Rattle.paths_finish.specs.Modified.{Path, begins, ends, go, nodeTime, pathTime, stays, stop}
+use Rattle.paths_finish.specs.helpers.Finishing.{AllDone, Finished}
+use Rattle.paths_finish.proofs.Links.{sink-ends, source-begins, then}
+use Rattle.paths_finish.proofs.Reached.{reached}
+use Rattle.paths_finish.proofs.Offers.{offer-marked, offer-unmarked}
+use Rattle.paths_finish.proofs.Passing.{Passing, good-passing}
 
 module _ {n e : ℕ} {times from to mark buffers d : List ℕ} (s : AllDone n e times from to mark buffers d) where
   abbrev g : Plan

@@ -1,8 +1,8 @@
 -- `finishes` begins at 0 and settles.
-use Rattle.paths.proofs.Offers.{begun}
-use Rattle.paths.proofs.Settling.{settled-finished}
-use Rattle.paths.proofs.finish.finishes.Statement.{statement}
-use Rattle.paths.proofs.finish.finishes.Tie as tie
+use Rattle.paths_finish.proofs.Offers.{begun}
+use Rattle.paths_finish.proofs.Settling.{settled-finished}
+use Rattle.paths_finish.proofs.finishes.Statement.{statement}
+use Rattle.paths_finish.proofs.finishes.Tie as tie
 
 settle-requires : tie.Need-settle-requires
 settle-requires c κs = begun (c .before .pre)

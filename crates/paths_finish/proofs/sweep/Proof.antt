@@ -1,10 +1,10 @@
 -- `sweep` raises edge by edge: what holds after the first k edges holds after one more.
-use Rattle.paths.proofs.Sweeps.{swept-more, swept-none, swept-to}
+use Rattle.paths_finish.proofs.Sweeps.{swept-more, swept-none, swept-to}
 use Prim.Native.Nat.{_-_, _≤_}
 use native.Mathlib.Omega.{arith}
-use Rattle.paths.specs.helpers.Finishing.{EdgesSwept}
-use Rattle.paths.proofs.finish.sweep.Statement.{statement}
-use Rattle.paths.proofs.finish.sweep.Tie as tie
+use Rattle.paths_finish.specs.helpers.Finishing.{EdgesSwept}
+use Rattle.paths_finish.proofs.sweep.Statement.{statement}
+use Rattle.paths_finish.proofs.sweep.Tie as tie
 
 abbrev Inv-loop : tie.InvT-loop
 Inv-loop n e times from to mark buffers finish₀ changed₀ k₀ finish changed k = (k ≤ e) × EdgesSwept n e times from to mark buffers k finish₀ finish changed

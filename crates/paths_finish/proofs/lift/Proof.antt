@@ -1,9 +1,9 @@
 -- `lift` raises the entry where it is lower, and else keeps the array.
 use native.Mathlib.Omega.{arith}
-use Rattle.paths.specs.helpers.Finishing.{kept, lifted}
+use Rattle.paths_finish.specs.helpers.Finishing.{kept, lifted}
 use borrow.Author.Needs.{needs}
-use Rattle.paths.proofs.finish.lift.Statement.{statement}
-use Rattle.paths.proofs.finish.lift.Tie as tie
+use Rattle.paths_finish.proofs.lift.Statement.{statement}
+use Rattle.paths_finish.proofs.lift.Tie as tie
 
 mul-if1 : tie.Need-mul-if1
 mul-if1 c = search needs

@@ -4,7 +4,7 @@ use mathlib.Core.List.{List}
 use Prim.Native.Nat.{_+_, _≤_, ℕ}
 use Rattle.marked.specs.Sums.{upto}
 use Rattle.net.specs.Plan.{Plan}
-use Rattle.paths.specs.Modified.{Path, pathTime}
+use Rattle.paths_finish.specs.Modified.{Path, pathTime}
 
 -- r is the largest sum of operation times on a path of the modified graph from the source to a node of a kind: one path has it, and none has more.
 pub record Longest (g : Plan) (Kind : ℕ → Type 0) (r : ℕ) : Type 0 where

@@ -6,11 +6,10 @@ ghost use mathlib.Core.Path.{_≡_};
 ghost use Prim.Native.Nat.{_<_, _≤_};
 ghost use Rattle.marked.specs.Net.{at};
 ghost use Rattle.net.specs.Plan.{timeAt};
-ghost use Rattle.paths.specs.Modified.{nodeTime};
-ghost use Rattle.net.specs.Limits.{mostOperations};
+ghost use Rattle.paths_finish.specs.Modified.{nodeTime};
+ghost use Rattle.net.specs.Limits.{mostNodes, mostOperations};
 ghost use Rattle.net.specs.Good.{Good};
-ghost use Rattle.paths.specs.helpers.Answers.{Finished};
-ghost use Rattle.paths.specs.helpers.Finishing.{AllDone, Backed, EdgesSwept, Lifted, doneBy, mostNodes};
+ghost use Rattle.paths_finish.specs.helpers.Finishing.{AllDone, Backed, EdgesSwept, Finished, Lifted, doneBy};
 
 // The number of a node, from a row.
 pub fn node(v: u8) -> usize

@@ -1,0 +1,3 @@
+pub mod Modified
+pub mod Longest
+pub mod helpers
