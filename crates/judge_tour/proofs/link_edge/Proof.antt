@@ -12,7 +12,8 @@ start c = c .before .before .before .before
 ends : (c : tie.After-byte-index2) → (c .before .before .byte-index .result < 42) × (c .byte-index2 .result < 42) × (2 * start c .args .k + 1 < 256)
 ends c =
     let s = start c in
-    (omega (arith, c .before .before .byte-index .ensures .0, s .pre .0 .leaves _ (s .pre .1)), omega (arith, c .byte-index2 .ensures .0, s .pre .0 .enters _ (s .pre .1)), omega (arith, s .pre .0 .edges))
+    let leaves = c .before .before .byte-index .ensures .0 in
+    (omega (arith, leaves, s .pre .0 .leaves _ (s .pre .1)), omega (arith, c .byte-index2 .ensures .0, s .pre .0 .enters _ (s .pre .1)), omega (arith, s .pre .0 .edges))
 
 element-copy-out-byte-index : tie.Need-element-copy-out-byte-index
 element-copy-out-byte-index c = search needs

@@ -17,7 +17,8 @@ byte-index-requires c κs = search needs
 gate-requires : tie.Need-gate-requires
 gate-requires c κs =
     let start = c .before .before in
-    (start .pre .0, subst (Item (start .args .n) (start .args .e)) (sym (c .byte-index .ensures .0)) (sort-item (start .pre .1 .1) (start .pre .0 .operations) (start .pre .0 .edges) (start .pre .1 .0)))
+    let item = sort-item (start .pre .1 .1) (start .pre .0 .operations) (start .pre .0 .edges) (start .pre .1 .0) in
+    (start .pre .0, subst (Item (start .args .n) (start .args .e)) (sym (c .byte-index .ensures .0)) item)
 
 element-copy-out-ready : tie.Need-element-copy-out-ready
 element-copy-out-ready c = search needs

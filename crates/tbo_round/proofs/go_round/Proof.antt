@@ -102,7 +102,9 @@ returns c =
     let at-index = at-place-src .before in
     let at-loop = at-index .before .before in
     let start = at-loop .before in
-    going-round (start .pre .1) (at-loop .loop .inv) (at-index .word-index .ensures .0) (at-place-src .place-src .ensures .is) (at-wide .quad-long .ensures .0) (at-count .byte-long .ensures .0) (c .if1 .taken)
+    let source = at-place-src .place-src .ensures .is in
+    let time = at-wide .quad-long .ensures .0 in
+    going-round (start .pre .1) (at-loop .loop .inv) (at-index .word-index .ensures .0) source time (at-count .byte-long .ensures .0) (c .if1 .taken)
 
 loop-less : tie.Need-loop-less Inv-loop μ-loop
 loop-less c =
@@ -119,7 +121,9 @@ loop-again c =
     let at-index = at-place-src .before in
     let at-loop = at-index .before .before in
     let start = at-loop .before in
-    going-on (start .pre .1) (at-loop .loop .inv) (at-index .word-index .ensures .0) (at-place-src .place-src .ensures .is) (at-wide .quad-long .ensures .0) (at-count .byte-long .ensures .0) (c .if1 .left)
+    let source = at-place-src .place-src .ensures .is in
+    let time = at-wide .quad-long .ensures .0 in
+    going-on (start .pre .1) (at-loop .loop .inv) (at-index .word-index .ensures .0) source time (at-count .byte-long .ensures .0) (c .if1 .left)
 
 pub go-round-spec : {M : Type 1} → statement M
 go-round-spec =

@@ -37,7 +37,9 @@ returns : tie.Need-returns
 returns c =
     let d = c .before .before .before in
     let s = start d in
-    spread-still {a = d .before .before .byte-index .result} {b = d .byte-index2 .result} (s .args .changed) (s .pre .1 .0) (omega (arith, c .if1 .taken)) (d .before .before .byte-index .ensures .0) (d .byte-index2 .ensures .0)
+    let first = d .before .before in
+    let second = d .byte-index2 in
+    spread-still {a = first .byte-index .result} {b = second .result} (s .args .changed) (s .pre .1 .0) (omega (arith, c .if1 .taken)) (first .byte-index .ensures .0) (second .ensures .0)
 
 element-write-seen : tie.Need-element-write-seen
 element-write-seen c = node (c .before .before .before) .0
