@@ -1,3 +1,4 @@
 // Rows 5 and 6: every operation's time, and every edge's ends and bytes.
 pub mod edges;
+mod extremes;
 pub mod operations;

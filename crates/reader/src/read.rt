@@ -1,7 +1,7 @@
 // The graph of a file whose frame is right, and the graph of a file that is refused.
 use crate::graph::Graph;
 use file_trailer::Trailer;
-use reader_tables::edges::column;
+use reader_tables::edges::edge_table;
 use reader_tables::operations::times;
 ghost use Rattle.net.specs.Plan.{Plan};
 ghost use Rattle.file_trailer.specs.File.{edgesOf, operationsOf, planOf};
@@ -14,10 +14,11 @@ pub fn read(file: &[u8], t: Trailer) -> Graph
     ensures { λ r. ⌜ Shows (planOf (now (file .entry))) (operationsOf (now (file .entry))) (edgesOf (now (file .entry))) r ⌝ }
 {
     let times = times(file, t);
-    let from = column(file, t, 0);
-    let to = column(file, t, 1);
-    let mark = column(file, t, 2);
-    let buffers = column(file, t, 3);
+    let table = edge_table(file, t);
+    let from = table.from;
+    let to = table.to;
+    let mark = table.mark;
+    let buffers = table.buffers;
     Graph {
         operations: t.operations,
         edges: t.edges,

@@ -5,10 +5,9 @@ use little::byte;
 use net::EDGES;
 ghost use mathlib.Core.Path.{_≡_};
 ghost use Prim.Native.Nat.{_<_};
-ghost use Rattle.net.specs.Limits.{mostEdges};
 ghost use Rattle.file_trailer.specs.File.{edgesOf, edgeByte};
 ghost use Rattle.file.specs.helpers.Opened.{Opened};
-ghost use Rattle.reader_tables.specs.Filled.{Filled};
+ghost use Rattle.reader_tables.specs.Tabled.{Tabled};
 
 // Byte k of edge e.
 pub fn edge_byte(file: &[u8], t: Trailer, e: usize, k: usize) -> u8
@@ -20,18 +19,36 @@ pub fn edge_byte(file: &[u8], t: Trailer, e: usize, k: usize) -> u8
     byte(file, t.edgetable + EDGE * e + k)
 }
 
-// Byte k of every edge, as an array.
-pub fn column(file: &[u8], t: Trailer, k: usize) -> [u8; EDGES]
+// Byte 0 to 3 of every edge.
+pub struct Columns {
+    pub from: [u8; EDGES],
+    pub to: [u8; EDGES],
+    pub mark: [u8; EDGES],
+    pub buffers: [u8; EDGES],
+}
+
+// The edge table as four arrays, in one pass.
+pub fn edge_table(file: &[u8], t: Trailer) -> Columns
     requires { ⌜ Opened (now file) t ⌝ }
-    requires { ⌜ k < 4 ⌝ }
-    ensures { λ r. ⌜ Filled (edgesOf (now (file .entry))) mostEdges (λ e. edgeByte (now (file .entry)) e k) r ⌝ }
+    ensures { λ r. ⌜ Tabled (now (file .entry)) r ⌝ }
 {
     let n = t.edges;
-    let mut xs = [0u8; EDGES];
+    let mut from = [0u8; EDGES];
+    let mut to = [0u8; EDGES];
+    let mut mark = [0u8; EDGES];
+    let mut buffers = [0u8; EDGES];
     let mut e = 0;
     while e < n {
-        xs[e] = edge_byte(file, t, e, k);
+        from[e] = edge_byte(file, t, e, 0);
+        to[e] = edge_byte(file, t, e, 1);
+        mark[e] = edge_byte(file, t, e, 2);
+        buffers[e] = edge_byte(file, t, e, 3);
         e += 1;
     }
-    xs
+    Columns {
+        from,
+        to,
+        mark,
+        buffers,
+    }
 }

@@ -24,6 +24,12 @@ at-loop c =
     let read = c .before .before .before in
     read .before .before .before
 
+plain-requires : tie.Need-plain-requires Inv-loop μ-loop
+plain-requires c κs = search needs
+
+returns : tie.Need-returns Inv-loop μ-loop
+returns c = c .before .plain .ensures (c .if1 .taken)
+
 loop-holds : tie.Need-loop-holds Inv-loop μ-loop
 loop-holds c = (omega arith, λ y l d. absurd (let z : ⊥ = omega arith in z))
 
@@ -42,10 +48,10 @@ element-copy-out-allowed-4 c = search needs
 allowed-requires : tie.Need-allowed-requires Inv-loop μ-loop
 allowed-requires c κs = search needs
 
-returns : tie.Need-returns Inv-loop μ-loop
-returns c =
+returns-2 : tie.Need-returns-2 Inv-loop μ-loop
+returns-2 c =
     let l = at-loop (c .before) in
-    record { place = omega arith; broken = denied (c .before .allowed .ensures) (not-true _ (c .if1 .taken)); lower = l .loop .inv .1 }
+    record { place = omega arith; broken = denied (c .before .allowed .ensures) (not-true _ (c .if2 .taken)); lower = l .loop .inv .1 }
 
 add-k : tie.Need-add-k Inv-loop μ-loop
 add-k c = omega arith
@@ -56,10 +62,10 @@ loop-less c = omega arith
 loop-again : tie.Need-loop-again Inv-loop μ-loop
 loop-again c =
     let l = at-loop (c .before) in
-    (omega arith, below-more _ _ (l .loop .inv .1) (λ d. said (c .before .allowed .ensures) (not-false _ (c .if1 .left))))
+    (omega arith, below-more _ _ (l .loop .inv .1) (λ d. said (c .before .allowed .ensures) (not-false _ (c .if2 .left))))
 
-returns-2 : tie.Need-returns-2 Inv-loop μ-loop
-returns-2 c = λ y d. c .before .loop .inv .1 y (omega arith) d
+returns-3 : tie.Need-returns-3 Inv-loop μ-loop
+returns-3 c = λ y d. c .before .loop .inv .1 y (omega arith) d
 
 pub first-wrong-spec : {M : Type 1} → statement M
 first-wrong-spec =
@@ -67,14 +73,16 @@ first-wrong-spec =
     (tie.spec
     Inv-loop
     μ-loop
+    plain-requires
+    returns
     loop-holds
     element-copy-out-allowed
     element-copy-out-allowed-2
     element-copy-out-allowed-3
     element-copy-out-allowed-4
     allowed-requires
-    returns
+    returns-2
     add-k
     loop-less
     loop-again
-    returns-2)
+    returns-3)
