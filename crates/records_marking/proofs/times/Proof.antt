@@ -1,8 +1,8 @@
 -- `times`: the loop stays within the bounds that its caller shows.
 use Prim.Native.Nat.{_-_, _≤_}
 use borrow.Author.Needs.{needs}
-use Rattle.records.proofs.calls.times.Statement.{statement}
-use Rattle.records.proofs.calls.times.Tie as tie
+use Rattle.records_marking.proofs.times.Statement.{statement}
+use Rattle.records_marking.proofs.times.Tie as tie
 
 abbrev Inv-loop : tie.InvT-loop
 Inv-loop xs n i₀ i = i ≤ n

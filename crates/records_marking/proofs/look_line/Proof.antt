@@ -2,8 +2,8 @@
 use borrow.Author.Needs.{needs}
 use Rattle.net.specs.Good.{Good}
 use Rattle.reader.proofs.Accepting.{accepted-good}
-use Rattle.records.proofs.calls.look_line.Statement.{statement}
-use Rattle.records.proofs.calls.look_line.Tie as tie
+use Rattle.records_marking.proofs.look_line.Statement.{statement}
+use Rattle.records_marking.proofs.look_line.Tie as tie
 
 -- past the test, look has accepted
 passed : (c : tie.After-enum-told) → let g = c .before .before .look .result .graph in

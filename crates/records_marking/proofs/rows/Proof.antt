@@ -1,8 +1,8 @@
 -- `rows`: the loop stays within the bounds that its caller shows.
 use Prim.Native.Nat.{_-_, _≤_}
 use borrow.Author.Needs.{needs}
-use Rattle.records.proofs.calls.rows.Statement.{statement}
-use Rattle.records.proofs.calls.rows.Tie as tie
+use Rattle.records_marking.proofs.rows.Statement.{statement}
+use Rattle.records_marking.proofs.rows.Tie as tie
 
 abbrev Inv-loop : tie.InvT-loop
 Inv-loop from to mark n e₀ e = e ≤ n
