@@ -7,10 +7,6 @@ use crate::SHORTEST;
 use file_trailer::TRAILER;
 use file_trailer::numbers;
 use little::byte;
-use net::EDGES;
-use net::FEWEST_EDGES;
-use net::FEWEST_OPERATIONS;
-use net::OPERATIONS;
 use refusal::Verdict;
 use refusal::refuse;
 ghost use mathlib.Core.Path.{_≡_};
@@ -68,19 +64,7 @@ fn counted(file: &[u8]) -> bool
     ensures { λ r. ⌜ Says (CountsKept (now (file .entry))) r ⌝ }
 {
     let t = numbers(file);
-    if t.operations < FEWEST_OPERATIONS {
-        return false;
-    }
-    if OPERATIONS < t.operations {
-        return false;
-    }
-    if t.edges < FEWEST_EDGES {
-        return false;
-    }
-    if EDGES < t.edges {
-        return false;
-    }
-    true
+    judge_counts::counted(t.operations, t.edges)
 }
 
 // One table stands at 0, and the other right behind its bytes.

@@ -1,8 +1,8 @@
 // The verdict on a graph: rows 5 to 9, asked in order of its rows. The graph may come from a file or from lists.
 mod tokens;
 
-use judge_links::joined::first_apart;
-use judge_links::linked::first_bare;
+use judge_joined::first_apart;
+use judge_links::first_bare;
 use judge_tables::edges::first_wrong;
 use judge_tables::operations::first_late;
 use net::EDGES;

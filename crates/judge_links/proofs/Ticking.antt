@@ -11,7 +11,7 @@ use Rattle.net.specs.Rules.{Linked, Touched}
 use Rattle.net.specs.Plan.{wires}
 use Rattle.judge_links.specs.helpers.Ticks.{Bound, Ticks}
 use Rattle.marked.proofs.Fresh.{zeros}
-use Rattle.judge_links.proofs.Reach.{set-marked, set-sound}
+use Rattle.judge_links.proofs.Marks.{set-marked, set-sound}
 
 touched-more : {k : ℕ} {end : ℕ → ℕ} {n : ℕ} → Touched k end n → Touched (k + 1) end n
 touched-more t = record { edge = t .edge; inside = omega (arith, t .inside); there = t .there }

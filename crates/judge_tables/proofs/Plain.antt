@@ -5,7 +5,7 @@ use native.Mathlib.Omega.{arith}
 use Rattle.refusal.specs.Asking.{Kept}
 use Rattle.net.specs.Plan.{rows}
 use Rattle.net.specs.Rules.{RowAllowed, row6}
-use Rattle.judge_tables.specs.helpers.Extremes.{NoneAbove, NoneBelow}
+use Rattle.judge_extremes.specs.helpers.Extremes.{NoneAbove, NoneBelow}
 
 pub extremes-kept : {n e least a b m f : ℕ} {from to mark buffers : List ℕ} → NoneBelow e to least → 1 ≤ least → NoneAbove e from a
     → NoneAbove e to b → NoneAbove e mark m → NoneAbove e buffers f → RowAllowed n a b m f → Kept (row6 (rows n e [] from to mark buffers))

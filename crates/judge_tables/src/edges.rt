@@ -1,6 +1,6 @@
 // Row 6: the lowest edge whose bytes are not allowed.
-use crate::extremes::largest;
-use crate::extremes::smallest;
+use judge_extremes::largest;
+use judge_extremes::smallest;
 use net::EDGES;
 use refusal::Found;
 ghost use mathlib.Core.Bool.{true};

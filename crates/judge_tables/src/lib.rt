@@ -1,4 +1,3 @@
 // Rows 5 and 6: every operation's time, and every edge's ends and bytes.
 pub mod edges;
-mod extremes;
 pub mod operations;

@@ -1,6 +1,4 @@
--- The four limits, one after the other.
-use Rattle.refusal.specs.helpers.Answers.{fails, holds}
-use native.Mathlib.Omega.{arith}
+-- The two counts stand in the trailer.
 use borrow.Author.Needs.{needs}
 use Rattle.file.proofs.frame.counted.Statement.{statement}
 use Rattle.file.proofs.frame.counted.Tie as tie
@@ -8,21 +6,13 @@ use Rattle.file.proofs.frame.counted.Tie as tie
 numbers-requires : tie.Need-numbers-requires
 numbers-requires c κs = search needs
 
+counted-requires : tie.Need-counted-requires
+counted-requires c κs = search needs
+
 returns : tie.Need-returns
-returns c = fails (λ h. omega arith)
-
-returns-2 : tie.Need-returns-2
-returns-2 c = fails (λ h. omega arith)
-
-returns-3 : tie.Need-returns-3
-returns-3 c = fails (λ h. omega arith)
-
-returns-4 : tie.Need-returns-4
-returns-4 c = fails (λ h. omega arith)
-
-returns-5 : tie.Need-returns-5
-returns-5 c = holds (search needs)
+returns c =
+    let t = c .before .numbers .ensures in
+    rw (t .operations) at (rw (t .edges) at (c .counted .ensures))
 
 pub counted-spec : {M : Type 1} → statement M
-counted-spec =
-    tie.close (tie.spec numbers-requires returns returns-2 returns-3 returns-4 returns-5)
+counted-spec = tie.close (tie.spec numbers-requires counted-requires returns)
