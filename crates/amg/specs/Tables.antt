@@ -4,6 +4,7 @@ use Prim.Native.Nat.{ℕ}
 use Rattle.refusal.specs.declared.Verdict.{Verdict}
 use Rattle.refusal.specs.declared.Verdict.the-variants.{Accepted, Refused as LookRefused}
 use Rattle.reader.specs.declared.graph.Graph.{Graph}
+use Rattle.amg_word.specs.Numbers.{boundsValues}
 use Rattle.bounds_graph.specs.declared.reply.Bounds.{Bounds}
 use Rattle.bounds_graph.specs.declared.reply.Bounds.the-variants.{Bounded, Refused as BoundsRefused}
 
@@ -24,7 +25,7 @@ abbrev pub shownIn : Verdict → Graph → Tables → Tables
 shownIn Accepted g before = tables (g .operations ∷ g .edges ∷ []) (g .times) (g .from) (g .to) (g .mark)
 shownIn (LookRefused r) g before = before
 
--- The five values after bounds: TBO's numerator and denominator, TBIO, TT and TCE; a refusal writes nothing.
+-- The five values after bounds; a refusal writes nothing.
 abbrev pub valuesIn : Bounds → List ℕ → List ℕ
-valuesIn (Bounded v) before = v .numerator ∷ v .denominator ∷ v .tbio ∷ v .tt ∷ v .tce ∷ []
+valuesIn (Bounded v) before = boundsValues v
 valuesIn (BoundsRefused r) before = before

@@ -1,16 +1,17 @@
 // The calls for C and for Rust, declared in include/amg.h. Each makes one call of the crates below, and its word tells that call's reply.
+use amg_word::numbers::bounds_values;
 use amg_word::word::bounds_word;
 use amg_word::word::pack;
 use amg_word::word::report_word;
+use amg_word::word::run_word;
+use amg_word::word::start_word;
+use amg_word::word::step_word;
 use amg_word::word::wait_word;
 use bounds_graph::reply::Bounds;
 use net::EDGES;
 use net::OPERATIONS;
 use refusal::Verdict;
 use refusal::refusal_of;
-use stepping_graph::reply::end_refusal;
-use stepping_graph::reply::start_refusal;
-use stepping_graph::reply::step_refusal;
 ghost use Rattle.amg.specs.Calls.{BoundsCall, LookCall, ReportCall, RunCall, StartCall, StepCall, WaitCall};
 ghost use Rattle.amg.specs.Tables.{tables};
 
@@ -52,7 +53,7 @@ pub extern "C" fn amg_start(file: &[u8], marking: &mut [u8]) -> u64
     ensures { λ w. ⌜ StartCall (now (file .entry)) (now (marking .entry)) w (now (marking .exit)) ⌝ }
 {
     let said = stepping::start(file, marking);
-    pack(start_refusal(said), 0)
+    start_word(said)
 }
 
 #[no_mangle]
@@ -60,7 +61,7 @@ pub extern "C" fn amg_step(file: &[u8], marking: &mut [u8], transition: u16) -> 
     ensures { λ w. ⌜ StepCall (now (file .entry)) (now (marking .entry)) transition w (now (marking .exit)) ⌝ }
 {
     let said = stepping::step(file, marking, transition);
-    pack(step_refusal(said), 0)
+    step_word(said)
 }
 
 // The word's count is the firings.
@@ -69,8 +70,7 @@ pub extern "C" fn amg_run(file: &[u8], marking: &mut [u8], list: &[u16]) -> u64
     ensures { λ w. ⌜ RunCall (now (file .entry)) (now (marking .entry)) (now (list .entry)) w (now (marking .exit)) ⌝ }
 {
     let said = stepping::run(file, marking, list);
-    let end = said.end;
-    pack(end_refusal(end), said.fired as u64)
+    run_word(said)
 }
 
 // The word's count is the wait.
@@ -90,13 +90,8 @@ pub extern "C" fn amg_bounds(file: &[u8], circuit: &mut [u16], values: &mut [u64
     let said = bounds::bounds(file, circuit);
     let word = bounds_word(said);
     if let Bounds::Bounded(found) = said {
-        *values = [
-            found.numerator,
-            found.denominator,
-            found.tbio as u64,
-            found.tt as u64,
-            found.tce as u64,
-        ];
+        let five = bounds_values(found);
+        *values = five;
     }
     word
 }

@@ -1,4 +1,5 @@
 -- The number and the place that document 01's table has for each case of a reply (0 and 0 where the call is done), and the count that it tells.
+use mathlib.Core.List.{List, [], _∷_}
 use Prim.Native.Nat.{ℕ}
 use Rattle.refusal.specs.declared.Refusal.{Refusal}
 use Rattle.refusal.specs.None.{noRefusal}
@@ -6,6 +7,7 @@ use Rattle.waiting_graph.specs.declared.reply.Wait.{Wait}
 use Rattle.waiting_graph.specs.declared.reply.Wait.the-variants.{Refused as WaitRefused, Waits}
 use Rattle.bounds_graph.specs.declared.reply.Bounds.{Bounds}
 use Rattle.bounds_graph.specs.declared.reply.Bounds.the-variants.{Bounded, Refused as BoundsRefused}
+use Rattle.bounds_graph.specs.declared.reply.Measures.{Measures}
 use Rattle.report_graph.specs.declared.reply.Report.{Report}
 use Rattle.report_graph.specs.declared.reply.Report.the-variants.{Refused as ReportRefused, Written}
 
@@ -28,6 +30,10 @@ boundsRefusal (BoundsRefused r) = r
 abbrev pub boundsCount : Bounds → ℕ
 boundsCount (Bounded v) = v .length
 boundsCount (BoundsRefused r) = 0
+
+-- Its five numbers: TBO's numerator and denominator, TBIO, TT and TCE.
+abbrev pub boundsValues : Measures → List ℕ
+boundsValues v = v .numerator ∷ v .denominator ∷ v .tbio ∷ v .tt ∷ v .tce ∷ []
 
 -- What `report` answers.
 abbrev pub reportRefusal : Report → Refusal

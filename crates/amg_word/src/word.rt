@@ -1,12 +1,19 @@
 // A reply's number, place and count as one word of 64 bits.
 use crate::numbers;
 use bounds_graph::reply::Bounds;
+use firing::step::Answer;
 use refusal::Refusal;
 use report_graph::reply;
 use report_graph::reply::Report;
+use running::repeat::Ran;
+use stepping_graph::reply::Start;
+use stepping_graph::reply::end_refusal;
+use stepping_graph::reply::start_refusal;
+use stepping_graph::reply::step_refusal;
 use waiting_graph::reply::Wait;
 ghost use mathlib.Core.Path.{_≡_};
 ghost use Prim.Native.Nat.{min};
+ghost use Rattle.stepping_graph.specs.Numbers.{endRefusal, startRefusal, stepRefusal};
 ghost use Rattle.amg_word.specs.Numbers.{boundsCount, boundsRefusal, reportCount, reportRefusal, waitCount, waitRefusal};
 ghost use Rattle.amg_word.specs.Word.{mostCount, packed};
 
@@ -24,6 +31,25 @@ pub fn pack(refusal: Refusal, count: u64) -> u64
     ensures { λ r. ⌜ r ≡ packed refusal count ⌝ }
 {
     (refusal.number as u64) + 256 * (refusal.place as u64) + 1099511627776 * held(count)
+}
+
+pub fn start_word(s: Start) -> u64
+    ensures { λ r. ⌜ r ≡ packed (startRefusal s) 0 ⌝ }
+{
+    pack(start_refusal(s), 0)
+}
+
+pub fn step_word(a: Answer) -> u64
+    ensures { λ r. ⌜ r ≡ packed (stepRefusal a) 0 ⌝ }
+{
+    pack(step_refusal(a), 0)
+}
+
+pub fn run_word(e: Ran) -> u64
+    ensures { λ r. ⌜ r ≡ packed (endRefusal (e .end)) (e .fired) ⌝ }
+{
+    let end = e.end;
+    pack(end_refusal(end), e.fired as u64)
 }
 
 pub fn wait_word(w: Wait) -> u64

@@ -22,7 +22,8 @@ use Rattle.stepping.specs.Replies.{refused as run-refused, started, stepped}
 use Rattle.waiting.specs.Reply.{refused as wait-refused}
 use Rattle.bounds_graph.specs.declared.reply.Measures.{Measures}
 use Rattle.report.specs.Reply.{written}
-use Rattle.report_graph.specs.Numbers.{reportBytes, textOf}
+use Rattle.report_graph.specs.Numbers.{textOf}
+use Rattle.report_text.specs.Room.{reportBytes}
 use Rattle.cases.specs.Said.{Along, Begun, Holds, LookRefuses, MarkingRefused, NoCircuit, Of, ReportIs, StepRefuses, by, edge, onward}
 use Rattle.cases.specs.Said.{Said, circuit-is, marking-refused, no-circuit, refused, report-is, step-refused, tbio-is, tbo-is, tt-is}
 use Rattle.cases.proofs.Trying.{Tried, and, fails, so, try}

@@ -22,7 +22,8 @@ use Rattle.paths_finish.specs.Longest.{TBIO, TCE, TT}
 use Rattle.circuit.specs.Chosen.{Chosen}
 use Rattle.bounds_graph.specs.declared.reply.Measures.{Measures}
 use Rattle.report.specs.Reply.{ReportReply}
-use Rattle.report_graph.specs.Numbers.{Numbers, reportBytes, textOf}
+use Rattle.report_graph.specs.Numbers.{Numbers, textOf}
+use Rattle.report_text.specs.Room.{reportBytes}
 use Rattle.report_graph.specs.declared.reply.Report.the-variants.{Written}
 
 -- The refusal k at x.

@@ -30,7 +30,8 @@ use Rattle.report_text.specs.Text.{refusedLine, reportText, waitLine, waitLines
 use Rattle.report_text.proofs.FitLaws.{refused-fits}
 use Rattle.report.specs.Reply.{ReportReply, refused, reportRows, roomRows, short, written}
 use Rattle.report_graph.specs.Length.{lengthOf}
-use Rattle.report_graph.specs.Numbers.{Numbers, reportBytes, textOf}
+use Rattle.report_graph.specs.Numbers.{Numbers, textOf}
+use Rattle.report_text.specs.Room.{reportBytes}
 use Rattle.report_graph.specs.declared.reply.Report.{Report}
 use Rattle.report_graph.specs.declared.reply.Report.the-variants.{Refused, Written}
 use Rattle.report.proofs.Refusals.{given-small}

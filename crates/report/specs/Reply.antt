@@ -11,7 +11,8 @@ use Rattle.reader.specs.declared.graph.Graph.{Graph}
 use Rattle.bounds_graph.specs.declared.reply.Measures.{Measures}
 use Rattle.pen_put.specs.Lines.{Put}
 use Rattle.report_text.specs.Text.{refusedLine}
-use Rattle.report_graph.specs.Numbers.{Numbers, reportBytes, textOf}
+use Rattle.report_graph.specs.Numbers.{Numbers, textOf}
+use Rattle.report_text.specs.Room.{reportBytes}
 use Rattle.report_graph.specs.declared.reply.Report.{Report}
 use Rattle.report_graph.specs.declared.reply.Report.the-variants.{Refused, Written}
 

@@ -15,7 +15,8 @@ use Rattle.net.proofs.Shapes.{wired-proper}
 use Rattle.bounds_graph.specs.Measured.{BoundsOf}
 use Rattle.bounds_graph.specs.declared.reply.Measures.{Measures}
 use Rattle.report_text.specs.helpers.Limits.{Writable}
-use Rattle.report_graph.specs.Numbers.{Numbers, reportBytes}
+use Rattle.report_graph.specs.Numbers.{Numbers}
+use Rattle.report_text.specs.Room.{reportBytes}
 use Rattle.report_graph.specs.helpers.Waited.{Waited}
 use Rattle.report_graph.proofs.Small.{tbo-small}
 

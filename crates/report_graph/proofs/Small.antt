@@ -23,7 +23,8 @@ use Rattle.paths.proofs.Order.{tbio-most, tt-most}
 use Rattle.bounds_graph.specs.declared.reply.Measures.{Measures}
 use Rattle.report_text.specs.helpers.Limits.{Printable}
 use Rattle.report_text.proofs.FitLaws.{report-fits}
-use Rattle.report_graph.specs.Numbers.{Numbers, reportBytes, textOf}
+use Rattle.report_graph.specs.Numbers.{Numbers, textOf}
+use Rattle.report_text.specs.Room.{reportBytes}
 
 module _ {n e : ℕ} {times from to mark buffers : List ℕ} (ok : Good n e times from to mark buffers) where
   abbrev g : Plan

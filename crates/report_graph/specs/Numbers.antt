@@ -22,7 +22,3 @@ pub record Numbers (g : Plan) (v : Measures) (ring : List ℕ) (wait : ℕ → �
 -- The text of a graph's report.
 abbrev pub textOf : Plan → Measures → List ℕ → (ℕ → ℕ) → List ℕ
 textOf g v ring wait = reportText (g .operations) (g .edges) (v .numerator) (v .denominator) (v .tbio) (v .tt) (v .tce) ring wait
-
--- The bytes that a report's buffer must have. (No report is longer: theorem `report-fits-room`.)
-abbrev pub reportBytes : ℕ
-reportBytes = 4096

@@ -9,7 +9,7 @@ ghost use Prim.Native.Nat.{_≤_};
 ghost use lib.ListN.{length};
 ghost use Rattle.net.specs.Plan.{rows};
 ghost use Rattle.net.specs.Good.{Good};
-ghost use Rattle.report_graph.specs.Numbers.{reportBytes};
+ghost use Rattle.report_text.specs.Room.{reportBytes};
 ghost use Rattle.report_graph.specs.helpers.Reported.{Reported};
 
 // The answer is the text's length.

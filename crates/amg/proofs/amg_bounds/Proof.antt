@@ -1,11 +1,12 @@
 -- The reply is that of bounds: where it has them its numbers are copied out, else nothing is written.
-use mathlib.Core.Path.{_≡_, ap, sym}
-use mathlib.Core.List.{List, [], _∷_}
+use mathlib.Core.Path.{_≡_, _∙_, ap, sym}
+use mathlib.Core.List.{List}
 use Prim.Native.Nat.{ℕ}
 use Rattle.refusal.specs.declared.Refusal.{Refusal}
 use Rattle.bounds_graph.specs.declared.reply.Bounds.{Bounds}
 use Rattle.bounds_graph.specs.declared.reply.Bounds.the-variants.{Bounded, Refused}
 use Rattle.bounds_graph.specs.declared.reply.Measures.{Measures}
+use Rattle.amg_word.specs.Numbers.{boundsValues}
 use Rattle.amg.specs.Tables.{valuesIn}
 use borrow.Author.Needs.{needs}
 use Rattle.amg.proofs.amg_bounds.Statement.{statement}
@@ -14,7 +15,7 @@ use Rattle.amg.proofs.amg_bounds.Tie as tie
 kept : (r : Bounds) (v : List ℕ) {x : Refusal} → r ≡ Refused x → v ≡ valuesIn r v
 kept r v e = sym (ap (λ (u : Bounds). valuesIn u v) e)
 
-written : (r : Bounds) (v : List ℕ) {x : Measures} → r ≡ Bounded x → x .numerator ∷ x .denominator ∷ x .tbio ∷ x .tt ∷ x .tce ∷ [] ≡ valuesIn r v
+written : (r : Bounds) (v : List ℕ) {x : Measures} → r ≡ Bounded x → boundsValues x ≡ valuesIn r v
 written r v e = sym (ap (λ (u : Bounds). valuesIn u v) e)
 
 bounds-requires : tie.Need-bounds-requires
@@ -26,14 +27,8 @@ bounds-word-requires c κs = search needs
 enum-known-said : tie.Need-enum-known-said
 enum-known-said c = search needs
 
-cast-t9 : tie.Need-cast-t9
-cast-t9 c = search needs
-
-cast-t10 : tie.Need-cast-t10
-cast-t10 c = search needs
-
-cast-t11 : tie.Need-cast-t11
-cast-t11 c = search needs
+bounds-values-requires : tie.Need-bounds-values-requires
+bounds-values-requires c κs = search needs
 
 enum-told : tie.Need-enum-told
 enum-told c = search needs
@@ -43,10 +38,10 @@ same-length c = search needs
 
 returns : tie.Need-returns
 returns c =
-    let s = c .before .before .before .before .before in
+    let s = c .before .before in
     let w = s .before .before in
     let b = w .before .before .before .bounds in
-    record { reply = b .result; allowed = (b .ensures, written _ _ (s .said .given .1)); told = w .bounds-word .ensures }
+    record { reply = b .result; allowed = (b .ensures, c .bounds-values .ensures ∙ written _ _ (s .said .given .1)); told = w .bounds-word .ensures }
 
 same-length-2 : tie.Need-same-length-2
 same-length-2 c = search needs
@@ -64,9 +59,7 @@ amg-bounds-spec =
     bounds-requires
     bounds-word-requires
     enum-known-said
-    cast-t9
-    cast-t10
-    cast-t11
+    bounds-values-requires
     enum-told
     same-length
     returns
