@@ -13,8 +13,8 @@ use Rattle.net.specs.Plan.{Plan, rows, timeAt, wires}
 use Rattle.net.specs.Ends.{startAt, timeOf}
 use Rattle.net.specs.Graph.{netOf, startOf, timesOf}
 use Rattle.net.specs.Good.{Good}
-use Rattle.net.specs.helpers.Start.{Started}
-use Rattle.net.specs.helpers.Times.{Timed}
+use Rattle.net_start.specs.helpers.Start.{Started}
+use Rattle.net_start.specs.helpers.Times.{Timed}
 use Rattle.net.proofs.Shapes.{start-ready, start-ring, start-single, time-other, time-process, wired-proper}
 use Rattle.fraction.specs.helpers.Loaded.{Weighted, loaded, mostTokens}
 use Rattle.fraction.specs.helpers.Terms.{InLowest}

@@ -1,7 +1,7 @@
 // Row 9: the lowest transition on a circuit of the computational graph that has no token at the start.
 use net::EDGES;
 use net::PLACES;
-use net::start::start_marking;
+use net_start::start::start_marking;
 use refusal::Found;
 ghost use Rattle.refusal.specs.helpers.Answers.{Finds};
 ghost use Rattle.net.specs.Rules.{row9};

@@ -1,6 +1,4 @@
 pub mod Shapes
-pub mod Starting
-pub mod Timing
 pub mod Table
 pub mod Safe
 pub mod Strong

@@ -2,5 +2,3 @@
 pub mod Lent
 pub mod Work
 pub mod Distance
-pub mod Start
-pub mod Times

@@ -1,7 +1,5 @@
 // The computational graph of document 01, over the operation count and the rows of the edges.
 pub mod ends;
-pub mod start;
-pub mod times;
 
 // The fewest and the most operations and edges: arrays have room for the most.
 pub const FEWEST_OPERATIONS: usize = 1;

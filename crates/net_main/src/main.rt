@@ -5,7 +5,7 @@ use distances::distances;
 use net::EDGES;
 use net::PLACES;
 use net::TRANSITIONS;
-use net::start::start_marking;
+use net_start::start::start_marking;
 use refusal::Found;
 ghost use Prim.Native.Nat.{_+_, _*_, _<_, _≤_};
 ghost use Rattle.net.specs.helpers.Lent.{Lent};

@@ -11,7 +11,7 @@ use Rattle.marked.specs.Wait.{WaitSum}
 use Rattle.marked.proofs.Demand.{wait-sum-same}
 use Rattle.net.specs.Plan.{wires}
 use Rattle.net.specs.Graph.{netOf}
-use Rattle.net.specs.helpers.Start.{Started}
+use Rattle.net_start.specs.helpers.Start.{Started}
 use Rattle.report_graph.specs.helpers.Waited.{Waited}
 
 -- The first k entries are the waits of their transitions.

@@ -1,7 +1,7 @@
 // The wait of each transition from the start.
 use net::EDGES;
 use net::PLACES;
-use net::start::start_marking;
+use net_start::start::start_marking;
 use waiting_graph::sum::wait_sum;
 ghost use Rattle.report_graph.specs.helpers.Waited.{Waited, WaitsAsk};
 

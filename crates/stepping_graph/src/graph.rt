@@ -4,7 +4,7 @@ use accepting::accepts::accepts;
 use firing::step::Answer;
 use firing::step::step_rows;
 use net::EDGES;
-use net::start::start_marking;
+use net_start::start::start_marking;
 use refusal::Refusal;
 use refusal::Verdict;
 use running::repeat::End;

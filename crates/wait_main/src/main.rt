@@ -4,7 +4,7 @@ use keeping::advance;
 use keeping::keeps;
 use net::EDGES;
 use net::PLACES;
-use net::start::start_marking;
+use net_start::start::start_marking;
 use reader::look;
 use refusal::Verdict;
 use waiting::wait;

@@ -7,7 +7,7 @@ use Rattle.refusal.specs.Asking.{Given, Sound}
 use Rattle.refusal.specs.declared.Refusal.{Refusal}
 use Rattle.net.specs.Plan.{Plan}
 use Rattle.net.specs.Graph.{netOf}
-use Rattle.net.specs.helpers.Start.{Started as Written}
+use Rattle.net_start.specs.helpers.Start.{Started as Written}
 use Rattle.accepting.specs.Rows.{runRows}
 use Rattle.firing.specs.declared.step.Answer.{Answer}
 use Rattle.firing.specs.declared.step.Answer.the-variants.{Refused}

@@ -1,10 +1,10 @@
 -- The invariant: the transitions before row i's process have their times.
-use Rattle.net.proofs.Timing.{TimedTo, timed-none, timed-on}
+use Rattle.net_start.proofs.Timing.{TimedTo, timed-none, timed-on}
 use native.Mathlib.Omega.{arith}
 use denote.Ref.{now}
 use Prim.Native.Nat.{_-_, _≤_}
-use Rattle.net.proofs.times.transition_times.Statement.{statement}
-use Rattle.net.proofs.times.transition_times.Tie as tie
+use Rattle.net_start.proofs.times.transition_times.Statement.{statement}
+use Rattle.net_start.proofs.times.transition_times.Tie as tie
 
 abbrev Inv-loop : tie.InvT-loop
 Inv-loop n times out₀ i₀ out i = (i ≤ n) × TimedTo times i out

@@ -1,9 +1,9 @@
 // The time of every transition, written into a lent buffer.
-use crate::OPERATIONS;
-use crate::TRANSITIONS;
+use net::OPERATIONS;
+use net::TRANSITIONS;
 ghost use Prim.Native.Nat.{_≤_};
 ghost use Rattle.net.specs.Limits.{mostOperations};
-ghost use Rattle.net.specs.helpers.Times.{Timed};
+ghost use Rattle.net_start.specs.helpers.Times.{Timed};
 
 // A process takes its operation's time, every other transition none.
 pub fn transition_times(n: usize, times: &[u32; OPERATIONS], out: &mut [u32; TRANSITIONS])

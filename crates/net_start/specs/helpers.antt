@@ -1,0 +1,3 @@
+-- Words between functions beneath the calls; no promise needs them.
+pub mod Start
+pub mod Times
