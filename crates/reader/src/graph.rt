@@ -8,11 +8,9 @@ use refusal::Refusal;
 use refusal::Verdict;
 ghost use mathlib.Core.List.{List};
 ghost use Prim.Native.Nat.{ℕ};
-ghost use Rattle.refusal.specs.Asking.{Given, Judged};
-ghost use Rattle.net.specs.Limits.{Counted};
-ghost use Rattle.net.specs.Rules.{graphRows};
+ghost use Rattle.refusal.specs.Asking.{Given};
 ghost use Rattle.file.specs.Frame.{lookRows};
-ghost use Rattle.reader.specs.Reply.{LookReply, shown};
+ghost use Rattle.reader.specs.Reply.{LookReply};
 
 // A graph as its file has it; unused entries are 0.
 pub struct Graph {
@@ -29,22 +27,6 @@ pub struct Graph {
 pub struct Look {
     pub verdict: Verdict,
     pub graph: Graph,
-}
-
-// Rows 5 to 9 of a graph.
-fn verdict_of(g: Graph) -> Verdict
-    requires { ⌜ Counted (g .operations) (g .edges) ⌝ }
-    ensures { λ r. ⌜ Judged (graphRows (shown g)) r ⌝ }
-{
-    judge(
-        g.operations,
-        g.edges,
-        &g.times,
-        &g.from,
-        &g.to,
-        &g.mark,
-        &g.buffers,
-    )
 }
 
 // The reply to a file that is refused.
@@ -85,7 +67,15 @@ impl Graph {
             return refused(refusal);
         }
         let g = read(file, numbers(file));
-        let verdict = verdict_of(g);
+        let verdict = judge(
+            g.operations,
+            g.edges,
+            &g.times,
+            &g.from,
+            &g.to,
+            &g.mark,
+            &g.buffers,
+        );
         if let Verdict::Refused(refusal) = verdict {
             return refused(refusal);
         }

@@ -26,9 +26,18 @@ framed c = sound-framed (judged-sound (subst (λ (v : Verdict). Judged (frameRow
 opened : (c : tie.After-numbers) → Opened (now (start (c .before) .args .file)) (c .numbers .result)
 opened c = record { framed = framed (c .before); numbers = c .numbers .ensures }
 
+-- From where the graph is judged, back over the columns that are lent, to where it was read; and to where the frame was right.
+abbrev graph-read : tie.After-judge-arg5 → tie.After-read
+graph-read c =
+    let lent = c .before .before .before in
+    lent .before .before .before
+
+abbrev told : tie.After-judge-arg5 → tie.After-enum-told
+told c = graph-read c .before .before
+
 -- The verdict on the file, once the graph is judged.
-judged : (c : tie.After-verdict-of) → Judged (lookRows (now (start (c .before .before .before) .args .file))) (c .verdict-of .result)
-judged c = judged-shown _ (framed (c .before .before .before)) (c .before .read .ensures) (c .verdict-of .ensures)
+judged : (c : tie.After-judge) → Judged (lookRows (now (start (told (c .before)) .args .file))) (c .judge .result)
+judged c = judged-shown _ (framed (told (c .before))) (graph-read (c .before) .read .ensures) (c .judge .ensures)
 
 framed-requires : tie.Need-framed-requires
 framed-requires c κs = search needs
@@ -55,8 +64,8 @@ numbers-requires c κs = framed c .sized
 read-requires : tie.Need-read-requires
 read-requires c κs = opened c
 
-verdict-of-requires : tie.Need-verdict-of-requires
-verdict-of-requires c κs = shown-counted (now (start (c .before .before) .args .file)) (framed (c .before .before) .counted) (c .read .ensures)
+judge-requires : tie.Need-judge-requires
+judge-requires c κs = shown-counted (now (start (told c) .args .file)) (framed (told c) .counted) (graph-read c .read .ensures)
 
 enum-known-verdict-2 : tie.Need-enum-known-verdict-2
 enum-known-verdict-2 c = search needs
@@ -67,7 +76,7 @@ refused-requires-2 c κs = search needs
 returns-2 : tie.Need-returns-2
 returns-2 c =
     let k = c .before .before in
-    let f = now (start (k .before .before .before .before .before) .args .file) in
+    let f = now (start (told (k .before .before .before)) .args .file) in
     c .refused2 .ensures f (judged-given (subst (λ (v : Verdict). Judged (lookRows f) v) (k .verdict2 .given .1) (judged (k .before .before))))
 
 enum-told-2 : tie.Need-enum-told-2
@@ -76,8 +85,8 @@ enum-told-2 c = search needs
 returns-3 : tie.Need-returns-3
 returns-3 c =
     let v = c .before .before in
-    let f = now (start (v .before .before .before) .args .file) in
-    record { judged = subst (λ (w : Verdict). Judged (lookRows f) w) (c .enum-told2 .given .1) (judged v); beside = v .before .read .ensures }
+    let f = now (start (told (v .before)) .args .file) in
+    record { judged = subst (λ (w : Verdict). Judged (lookRows f) w) (c .enum-told2 .given .1) (judged v); beside = graph-read (v .before) .read .ensures }
 
 pub from-file-spec : {M : Type 1} → statement M
 from-file-spec =
@@ -90,7 +99,7 @@ from-file-spec =
     enum-told
     numbers-requires
     read-requires
-    verdict-of-requires
+    judge-requires
     enum-known-verdict-2
     refused-requires-2
     returns-2
