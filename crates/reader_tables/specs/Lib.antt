@@ -1,2 +1,2 @@
 pub mod Filled
-pub mod Tabled
+pub mod helpers

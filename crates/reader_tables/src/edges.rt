@@ -7,7 +7,7 @@ ghost use mathlib.Core.Path.{_≡_};
 ghost use Prim.Native.Nat.{_<_};
 ghost use Rattle.file_trailer.specs.File.{edgesOf, edgeByte};
 ghost use Rattle.file.specs.helpers.Opened.{Opened};
-ghost use Rattle.reader_tables.specs.Tabled.{Tabled};
+ghost use Rattle.reader_tables.specs.helpers.Tabled.{Tabled};
 
 // Byte k of edge e.
 pub fn edge_byte(file: &[u8], t: Trailer, e: usize, k: usize) -> u8

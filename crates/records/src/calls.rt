@@ -1,4 +1,4 @@
-// The call that a letter names. The lines of bounds and report stand here: the name, the refusal's number and place, the values, and the lent memory afterwards.
+// The call that a letter names, and the lines of bounds and report: name, the refusal's number and place, values, the lent memory afterwards.
 use bounds_graph::reply::Bounds;
 use records_marking::look_line;
 use records_marking::run_line;
