@@ -3,13 +3,10 @@ use casts::byte_index;
 use casts::word_index;
 use dead_lists::follow;
 use dead_lists::goal_of;
-use dead_lists::link_places;
-use net::EDGES;
 use net::PLACES;
 use net::TRANSITIONS;
 ghost use Prim.Native.Nat.{_+_, _*_, _<_, _≤_};
 ghost use Rattle.net.specs.Limits.{mostOperations, mostTransitions};
-ghost use Rattle.net.specs.helpers.Lent.{Lent};
 
 // The level of the first component, which leads to no other. Each later one gets the next lower: all stay above the numbers of the search.
 const TOP: u8 = 255;
@@ -294,32 +291,17 @@ fn search_all(
     }
 }
 
-// A level for each transition. An empty place leads to a higher one, or stays in its component.
+// A level for each transition, by the lists of the empty places. An empty place leads to a higher one, or stays in its component.
 pub fn part_levels(
     n: usize,
-    e: usize,
-    from: &[u8; EDGES],
-    to: &[u8; EDGES],
-    marking: &[u8],
+    head: &[u16; TRANSITIONS],
+    next: &[u16; PLACES],
+    goal: &[u8; PLACES],
 ) -> [u8; TRANSITIONS]
-    requires { ⌜ Lent n e (now from) (now to) (now marking) ⌝ }
+    requires { ⌜ n ≤ mostOperations ⌝ }
 {
-    let mut head = [0; TRANSITIONS];
-    let mut next = [0; PLACES];
-    let mut goal = [0; PLACES];
-    let mut inputs = [0; TRANSITIONS];
-    link_places(
-        n,
-        e,
-        from,
-        to,
-        marking,
-        &mut head,
-        &mut next,
-        &mut goal,
-        &mut inputs,
-    );
+    let mut left = *head;
     let mut level = [0; TRANSITIONS];
-    search_all(n, &mut head, &next, &goal, &mut level);
+    search_all(n, &mut left, next, goal, &mut level);
     level
 }

@@ -39,7 +39,7 @@ shared-slice-read-link : tie.Need-shared-slice-read-link
 shared-slice-read-link c = search needs
 
 link-requires : tie.Need-link-requires
-link-requires c κs = let x = ends (c .before .before .before .before .before) in (x .0, x .1, omega arith)
+link-requires c κs = let x = ends (c .before .before .before .before) in (x .0, x .1, omega arith)
 
 add-link : tie.Need-add-link
 add-link c = search needs
@@ -52,9 +52,8 @@ shared-slice-read-link-2 c = search needs
 
 link-requires-2 : tie.Need-link-requires-2
 link-requires-2 c κs =
-    let first = c .before .before .before .before .before in
-    let read = first .before .before .before in
-    let x = ends (read .before .before .before) in
+    let first = c .before .before .before .before in
+    let x = ends (first .before .before .before .before .before) in
     (x .1, x .0, omega (arith, x .2))
 
 returns : tie.Need-returns

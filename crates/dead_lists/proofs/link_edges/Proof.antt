@@ -6,10 +6,10 @@ use Rattle.dead_lists.proofs.link_edges.Statement.{statement}
 use Rattle.dead_lists.proofs.link_edges.Tie as tie
 
 abbrev Inv-loop : tie.InvT-loop
-Inv-loop n e from to marking head₀ next₀ goal₀ count₀ k₀ head next goal count k = k ≤ e
+Inv-loop n e from to marking head₀ next₀ goal₀ k₀ head next goal k = k ≤ e
 
 abbrev μ-loop : tie.MeasureT-loop
-μ-loop n e from to marking head₀ next₀ goal₀ count₀ k₀ head next goal count k = e - k
+μ-loop n e from to marking head₀ next₀ goal₀ k₀ head next goal k = e - k
 
 loop-holds : tie.Need-loop-holds Inv-loop μ-loop
 loop-holds c = omega arith

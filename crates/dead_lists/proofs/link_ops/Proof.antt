@@ -6,10 +6,10 @@ use Rattle.dead_lists.proofs.link_ops.Statement.{statement}
 use Rattle.dead_lists.proofs.link_ops.Tie as tie
 
 abbrev Inv-loop : tie.InvT-loop
-Inv-loop n marking head₀ next₀ goal₀ count₀ i₀ head next goal count i = i ≤ n
+Inv-loop n marking head₀ next₀ goal₀ i₀ head next goal i = i ≤ n
 
 abbrev μ-loop : tie.MeasureT-loop
-μ-loop n marking head₀ next₀ goal₀ count₀ i₀ head next goal count i = n - i
+μ-loop n marking head₀ next₀ goal₀ i₀ head next goal i = n - i
 
 loop-holds : tie.Need-loop-holds Inv-loop μ-loop
 loop-holds c = omega arith

@@ -1,7 +1,7 @@
 -- `push`: a queue that is full takes no more.
 use borrow.Author.Needs.{needs}
-use Rattle.dead_queue.proofs.queue.push.Statement.{statement}
-use Rattle.dead_queue.proofs.queue.push.Tie as tie
+use Rattle.dead_hints.proofs.ways.push.Statement.{statement}
+use Rattle.dead_hints.proofs.ways.push.Tie as tie
 
 cast-queue : tie.Need-cast-queue
 cast-queue c = search needs

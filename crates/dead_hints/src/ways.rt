@@ -1,16 +1,24 @@
 // The way to each transition: the empty place by which a search from one transition first reaches it.
-use crate::queue::push;
 use casts::byte_index;
 use casts::word_index;
 use dead_lists::follow;
 use dead_lists::goal_of;
-use dead_lists::link_places;
-use net::EDGES;
 use net::PLACES;
 use net::TRANSITIONS;
 ghost use Prim.Native.Nat.{_+_, _*_, _<_, _≤_};
 ghost use Rattle.net.specs.Limits.{mostTransitions};
-ghost use Rattle.net.specs.helpers.Lent.{Lent};
+
+// t joins the queue. The answer is its new length.
+fn push(t: usize, queue: &mut [u8; TRANSITIONS], end: usize) -> usize
+    requires { ⌜ (t < mostTransitions) × (end ≤ mostTransitions) ⌝ }
+    ensures { λ r. ⌜ r ≤ mostTransitions ⌝ }
+{
+    if end < TRANSITIONS {
+        queue[end] = t as u8;
+        return end + 1;
+    }
+    end
+}
 
 // Entry q leads to u: the first to do so is noted, and u joins the queue.
 fn note(
@@ -100,34 +108,16 @@ fn reach(
     }
 }
 
-// The entry of the empty place by which each transition is first reached from t, t itself too: 0 where it is not.
+// The entry of the empty place by which each transition is first reached from t, t itself too: 0 where it is not. The lists are those of the empty places.
 pub fn ways(
-    n: usize,
-    e: usize,
-    from: &[u8; EDGES],
-    to: &[u8; EDGES],
-    marking: &[u8],
+    head: &[u16; TRANSITIONS],
+    next: &[u16; PLACES],
+    goal: &[u8; PLACES],
     t: usize,
 ) -> [u16; TRANSITIONS]
-    requires { ⌜ Lent n e (now from) (now to) (now marking) ⌝ }
     requires { ⌜ t < mostTransitions ⌝ }
 {
-    let mut head = [0; TRANSITIONS];
-    let mut next = [0; PLACES];
-    let mut goal = [0; PLACES];
-    let mut inputs = [0; TRANSITIONS];
-    link_places(
-        n,
-        e,
-        from,
-        to,
-        marking,
-        &mut head,
-        &mut next,
-        &mut goal,
-        &mut inputs,
-    );
     let mut via = [0; TRANSITIONS];
-    reach(t, &head, &next, &goal, &mut via);
+    reach(t, head, next, goal, &mut via);
     via
 }

@@ -2,8 +2,8 @@
 use Prim.Native.Nat.{_<_, _≤_}
 use native.Mathlib.Omega.{arith}
 use borrow.Author.Needs.{needs}
-use Rattle.dead_queue.proofs.ways.spread.Statement.{statement}
-use Rattle.dead_queue.proofs.ways.spread.Tie as tie
+use Rattle.dead_hints.proofs.ways.spread.Statement.{statement}
+use Rattle.dead_hints.proofs.ways.spread.Tie as tie
 
 abbrev Inv-loop : tie.InvT-loop
 Inv-loop first next goal via₀ order₀ start end₀ q₀ via order end q = (q < 65536) × (end ≤ 122)

@@ -1,18 +1,18 @@
--- `strike_out`: safe, and it ends, since the queue is no longer than there are transitions.
+-- `reach`: safe, and it ends.
 use Prim.Native.Nat.{_-_, _≤_}
 use native.Mathlib.Omega.{arith}
 use borrow.Author.Needs.{needs}
-use Rattle.dead_queue.proofs.queue.strike_out.Statement.{statement}
-use Rattle.dead_queue.proofs.queue.strike_out.Tie as tie
+use Rattle.dead_hints.proofs.ways.reach.Statement.{statement}
+use Rattle.dead_hints.proofs.ways.reach.Tie as tie
 
 abbrev Inv-loop : tie.InvT-loop
-Inv-loop n head next goal inputs₀ level₀ queue₀ end₀ at₀ inputs level queue end at = end ≤ 122
+Inv-loop t head next goal via₀ order₀ end₀ done₀ via order end done = end ≤ 122
 
 abbrev μ-loop : tie.MeasureT-loop
-μ-loop n head next goal inputs₀ level₀ queue₀ end₀ at₀ inputs level queue end at = 122 - at
+μ-loop t head next goal via₀ order₀ end₀ done₀ via order end done = 122 - done
 
-seed-requires : tie.Need-seed-requires Inv-loop μ-loop
-seed-requires c κs = search needs
+push-requires : tie.Need-push-requires Inv-loop μ-loop
+push-requires c κs = omega arith
 
 loop-holds : tie.Need-loop-holds Inv-loop μ-loop
 loop-holds c = omega arith
@@ -23,11 +23,11 @@ array-read-byte-index c = omega arith
 byte-index-requires : tie.Need-byte-index-requires Inv-loop μ-loop
 byte-index-requires c κs = search needs
 
-take-requires : tie.Need-take-requires Inv-loop μ-loop
-take-requires c κs = search needs
+spread-from-requires : tie.Need-spread-from-requires Inv-loop μ-loop
+spread-from-requires c κs = omega arith
 
-add-at : tie.Need-add-at Inv-loop μ-loop
-add-at c = omega arith
+add-done : tie.Need-add-done Inv-loop μ-loop
+add-done c = omega arith
 
 loop-less : tie.Need-loop-less Inv-loop μ-loop
 loop-less c = omega arith
@@ -38,18 +38,18 @@ loop-again c = omega arith
 returns : tie.Need-returns Inv-loop μ-loop
 returns c = search needs
 
-pub strike-out-spec : {M : Type 1} → statement M
-strike-out-spec =
+pub reach-spec : {M : Type 1} → statement M
+reach-spec =
     tie.close
     (tie.spec
     Inv-loop
     μ-loop
-    seed-requires
+    push-requires
     loop-holds
     array-read-byte-index
     byte-index-requires
-    take-requires
-    add-at
+    spread-from-requires
+    add-done
     loop-less
     loop-again
     returns)
