@@ -14,11 +14,11 @@ pub fn read(file: &[u8], t: Trailer) -> Graph
     ensures { λ r. ⌜ Shows (planOf (now (file .entry))) (operationsOf (now (file .entry))) (edgesOf (now (file .entry))) r ⌝ }
 {
     let times = times(file, t);
-    let table = edge_table(file, t);
-    let from = table.from;
-    let to = table.to;
-    let mark = table.mark;
-    let buffers = table.buffers;
+    let mut from = [0u8; Graph::EDGES];
+    let mut to = [0u8; Graph::EDGES];
+    let mut mark = [0u8; Graph::EDGES];
+    let mut buffers = [0u8; Graph::EDGES];
+    edge_table(file, t, &mut from, &mut to, &mut mark, &mut buffers);
     Graph {
         operations: t.operations,
         edges: t.edges,

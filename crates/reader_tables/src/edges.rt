@@ -19,24 +19,20 @@ pub fn edge_byte(file: &[u8], t: Trailer, e: usize, k: usize) -> u8
     byte(file, t.edgetable + EDGE * e + k)
 }
 
-// Byte 0 to 3 of every edge.
-pub struct Columns {
-    pub from: [u8; EDGES],
-    pub to: [u8; EDGES],
-    pub mark: [u8; EDGES],
-    pub buffers: [u8; EDGES],
-}
-
-// The edge table as four arrays, in one pass.
-pub fn edge_table(file: &[u8], t: Trailer) -> Columns
+// The edge table into four arrays of zeros, in one pass.
+pub fn edge_table(
+    file: &[u8],
+    t: Trailer,
+    from: &mut [u8; EDGES],
+    to: &mut [u8; EDGES],
+    mark: &mut [u8; EDGES],
+    buffers: &mut [u8; EDGES],
+)
     requires { ⌜ Opened (now file) t ⌝ }
-    ensures { λ r. ⌜ Tabled (now (file .entry)) r ⌝ }
+    requires { ⌜ Tabled (now file) 0 (now from) (now to) (now mark) (now buffers) ⌝ }
+    ensures { λ _. ⌜ Tabled (now (file .entry)) (edgesOf (now (file .entry))) (now (from .exit)) (now (to .exit)) (now (mark .exit)) (now (buffers .exit)) ⌝ }
 {
     let n = t.edges;
-    let mut from = [0u8; EDGES];
-    let mut to = [0u8; EDGES];
-    let mut mark = [0u8; EDGES];
-    let mut buffers = [0u8; EDGES];
     let mut e = 0;
     while e < n {
         from[e] = edge_byte(file, t, e, 0);
@@ -44,11 +40,5 @@ pub fn edge_table(file: &[u8], t: Trailer) -> Columns
         mark[e] = edge_byte(file, t, e, 2);
         buffers[e] = edge_byte(file, t, e, 3);
         e += 1;
-    }
-    Columns {
-        from,
-        to,
-        mark,
-        buffers,
     }
 }
