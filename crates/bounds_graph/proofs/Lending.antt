@@ -13,7 +13,7 @@ use Rattle.net.specs.Plan.{Plan, rows, timeAt, wires}
 use Rattle.net.specs.Ends.{startAt, timeOf}
 use Rattle.net.specs.Graph.{netOf, startOf, timesOf}
 use Rattle.net.specs.Good.{Good}
-use Rattle.net_start.specs.helpers.Start.{Started}
+use Rattle.net_start.specs.helpers.Start.{HoldsStart}
 use Rattle.net_start.specs.helpers.Times.{Timed}
 use Rattle.net.proofs.Shapes.{start-ready, start-ring, start-single, time-other, time-process, wired-proper}
 use Rattle.fraction.specs.helpers.Loaded.{Weighted, loaded, mostTokens}
@@ -28,8 +28,8 @@ use Rattle.bounds_graph.specs.Measured.{BoundsOf}
 use Rattle.bounds_graph.specs.declared.reply.Measures.{Measures}
 
 module _
-    {n e : ℕ} {times from to mark buffers room marking spans : List ℕ} (good : Good n e times from to mark buffers)
-    (started : Started n mark 0 (3 * n + 2 * e) room marking) (timed : Timed n times spans) where
+    {n e : ℕ} {times from to mark buffers marking spans : List ℕ} (good : Good n e times from to mark buffers)
+    (started : HoldsStart n e mark marking) (timed : Timed n times spans) where
   abbrev g : Plan
   g = rows n e times from to mark buffers
 
@@ -37,7 +37,7 @@ module _
   proper = wired-proper (good .wired)
 
   tokened : (p : ℕ) → p < 3 * n + 2 * e → at marking p ≡ startOf g p
-  tokened p h = started .filled p (omega arith) h
+  tokened = started .each
 
   few : (p : ℕ) → p < 3 * n + 2 * e → startAt n (at mark) p ≤ mostTokens
   few p h = elim (decLt p (3 * n)) [

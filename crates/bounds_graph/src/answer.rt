@@ -3,6 +3,8 @@ use crate::measure::measure;
 use crate::reply::Bounds;
 use net::EDGES;
 use net::OPERATIONS;
+use net::PLACES;
+use net_start::start::start_marking;
 use refusal::Refusal;
 ghost use Rattle.net.specs.Plan.{rows};
 ghost use Rattle.net.specs.Good.{Good};
@@ -29,6 +31,8 @@ pub fn answer<'a>(
             place: 0,
         });
     }
-    let found = measure(n, e, times, from, to, mark, buffers, circuit);
+    let mut marking = [0u8; PLACES];
+    start_marking(n, e, mark, &mut marking);
+    let found = measure(n, e, times, from, to, mark, buffers, &marking, circuit);
     Bounds::Bounded(found)
 }

@@ -6,12 +6,14 @@ use native.Mathlib.Omega.{arith}
 use lib.ListN.{drop, length, length-append, take}
 use lib.Seq.{take-at}
 use Rattle.marked.specs.Net.{at}
+use Rattle.marked.proofs.Demand.{wait-sum-same}
 use Rattle.marked.proofs.Sizes.{circuit-length}
 use Rattle.net.specs.Limits.{mostTransitions}
 use Rattle.net.specs.Plan.{rows}
 use Rattle.net.specs.Graph.{netOf}
 use Rattle.net.specs.Good.{Good}
 use Rattle.net.proofs.Shapes.{wired-proper}
+use Rattle.net_start.specs.helpers.Start.{HoldsStart}
 use Rattle.bounds_graph.specs.Measured.{BoundsOf}
 use Rattle.bounds_graph.specs.declared.reply.Measures.{Measures}
 use Rattle.report_text.specs.helpers.Limits.{Writable}
@@ -49,7 +51,14 @@ module _
         each = each;
       }
 
-  -- So these are the report's numbers.
-  pub bounds-numbers : {zeros waits : List ℕ} → Waited n e from to mark zeros waits → Numbers (rows n e times from to mark buffers) v (take (v .length) after) (at waits)
-  bounds-numbers w =
-      record { tbo = o .tbo-is; tbio = o .tbio-is; tt = o .tt-is; tce = o .tce-is; circuit = rw ring-is (o .circuit .chosen); waits = w .each }
+  -- So these are the report's numbers, since the marking is the start.
+  pub bounds-numbers : {marking zeros waits : List ℕ} → HoldsStart n e mark marking → Waited n e from to marking zeros waits
+      → Numbers (rows n e times from to mark buffers) v (take (v .length) after) (at waits)
+  bounds-numbers h w = record {
+    tbo = o .tbo-is;
+    tbio = o .tbio-is;
+    tt = o .tt-is;
+    tce = o .tce-is;
+    circuit = rw ring-is (o .circuit .chosen);
+    waits = λ t l. wait-sum-same (h .each) (w .each t l);
+  }

@@ -1,4 +1,4 @@
--- The waits from the start: the bytes hold the start, so what is summed over them is the wait.
+-- The waits, one entry a turn.
 use mathlib.Core.Path.{_≡_, subst, sym}
 use mathlib.Core.List.{List}
 use Prim.Native.Nat.{_*_, _+_, _<_, ℕ}
@@ -8,10 +8,8 @@ use lib.ListN.{length, set}
 use lib.Seq.{getD-set-other, getD-set-same}
 use Rattle.marked.specs.Net.{at}
 use Rattle.marked.specs.Wait.{WaitSum}
-use Rattle.marked.proofs.Demand.{wait-sum-same}
 use Rattle.net.specs.Plan.{wires}
 use Rattle.net.specs.Graph.{netOf}
-use Rattle.net_start.specs.helpers.Start.{Started}
 use Rattle.report_graph.specs.helpers.Waited.{Waited}
 
 -- The first k entries are the waits of their transitions.
@@ -31,7 +29,7 @@ module _ {n e : ℕ} {from to marking : List ℕ} where
         (subst (λ (v : ℕ). WaitSum (netOf (wires n e from to)) (at marking) k v) (sym (getD-set-same waits k w 0 h)) x);
   }
 
-  -- All of them, over the bytes of the start.
-  pub summing-waited : {k : ℕ} {mark a before after : List ℕ} → Started n mark 0 (3 * n + 2 * e) a marking → k ≡ 3 * n + 2
-      → Summing n e from to marking k after → length after ≡ length before → Waited n e from to mark before after
-  summing-waited start j s long = record { each = λ t l. wait-sum-same (λ p h. start .filled p (omega arith) h) (s .sums t (omega arith)); long = long }
+  -- All of them.
+  pub summing-waited : {k : ℕ} {before after : List ℕ} → k ≡ 3 * n + 2 → Summing n e from to marking k after → length after ≡ length before
+      → Waited n e from to marking before after
+  summing-waited j s long = record { each = λ t l. s .sums t (omega arith); long = long }

@@ -1,9 +1,11 @@
 // The report of a graph that look has accepted, where it has room: its waits, its bounds and the text.
-use crate::waits::start_waits;
+use crate::waits::every_wait;
 use bounds_graph::measure::measure;
 use net::EDGES;
 use net::OPERATIONS;
+use net::PLACES;
 use net::TRANSITIONS;
+use net_start::start::start_marking;
 use report_lines::write_report;
 ghost use Prim.Native.Nat.{_≤_};
 ghost use lib.ListN.{length};
@@ -28,10 +30,12 @@ pub fn answer<'a>(
     ensures { λ r. ⌜ Reported (rows n e (now (times .entry)) (now (from .entry)) (now (to .entry)) (now (mark .entry)) (now (buffers .entry)))
         (now (buffer .entry)) r (now (buffer .exit)) ⌝ }
 {
+    let mut marking = [0u8; PLACES];
+    start_marking(n, e, mark, &mut marking);
     let mut waits = [0u32; TRANSITIONS];
-    start_waits(n, e, from, to, mark, &mut waits);
+    every_wait(n, e, from, to, &marking, &mut waits);
     let mut ring = [0u16; TRANSITIONS];
-    let found = measure(n, e, times, from, to, mark, buffers, &mut ring);
+    let found = measure(n, e, times, from, to, mark, buffers, &marking, &mut ring);
     let places = found.length;
     write_report(
         buffer,

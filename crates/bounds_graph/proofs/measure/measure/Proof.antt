@@ -5,42 +5,30 @@ use borrow.Author.Needs.{needs}
 use Rattle.bounds_graph.proofs.measure.measure.Statement.{statement}
 use Rattle.bounds_graph.proofs.measure.measure.Tie as tie
 
-slice-aggregate-start-marking : tie.Need-slice-aggregate-start-marking
-slice-aggregate-start-marking c = search needs
+-- Where the times are there, from where TBO is; and where all began.
+abbrev times : tie.After-largest → tie.After-transition-times
+times c = c .before .before .before
 
-start-marking-requires : tie.Need-start-marking-requires
-start-marking-requires c κs = search needs
+abbrev start : tie.After-transition-times → tie.Start
+start c = c .before .before .before
 
 transition-times-requires : tie.Need-transition-times-requires
 transition-times-requires c κs = search needs
 
 largest-requires : tie.Need-largest-requires
 largest-requires c κs =
-    let at-transition-times = c .before .before .before in
-    let at-start-marking = at-transition-times .before .before .before in
-    let start = at-start-marking .before .before .before in
-    let good = start .pre .0 in
-    let started = at-start-marking .start-marking .ensures in
-    let timed = at-transition-times .transition-times .ensures in
-    (lent-weighted good started timed, lent-live good started timed)
+    let t = c .before .before in
+    let pre = start t .pre in
+    (lent-weighted (pre .0) (pre .1 .0) (t .transition-times .ensures), lent-live (pre .0) (pre .1 .0) (t .transition-times .ensures))
 
 choose-requires : tie.Need-choose-requires
 choose-requires c κs =
-    let at-largest = c .before .before .before .before in
-    let at-transition-times = at-largest .before .before .before .before in
-    let at-start-marking = at-transition-times .before .before .before in
-    let start = at-start-marking .before .before .before in (
-      lent-weighted (start .pre .0) (at-start-marking .start-marking .ensures) (at-transition-times .transition-times .ensures),
-      (at-largest .largest .ensures, start .pre .1),
-    )
+    let l = c .before .before .before in
+    let pre = start (times l) .pre in
+    (lent-weighted (pre .0) (pre .1 .0) (times l .transition-times .ensures), (l .largest .ensures, pre .1 .1))
 
 path-sums-requires : tie.Need-path-sums-requires
-path-sums-requires c κs =
-    let at-lasts3 = c .before .before .before .before .before in
-    let at-marking3 = at-lasts3 .before .before .before .before .before in
-    let at-marking = at-marking3 .before .before .before .before .before in
-    let start = at-marking .before .before in
-    start .pre .0
+path-sums-requires c κs = let l = c .before .before .before .before .before .before in start (times l) .pre .0
 
 reduce-requires : tie.Need-reduce-requires
 reduce-requires c κs = search needs
@@ -52,15 +40,13 @@ returns : tie.Need-returns
 returns c =
     let at-path-sums = c .before in
     let at-choose = at-path-sums .before .before .before in
-    let at-largest = at-choose .before .before .before .before .before in
-    let at-transition-times = at-largest .before .before .before .before in
-    let at-start-marking = at-transition-times .before .before .before in
-    let start = at-start-marking .before .before .before in
+    let l = at-choose .before .before .before .before in
+    let pre = start (times l) .pre in
     bounds-of
-    (start .pre .0)
-    (at-start-marking .start-marking .ensures)
-    (at-transition-times .transition-times .ensures)
-    (at-largest .largest .ensures)
+    (pre .0)
+    (pre .1 .0)
+    (times l .transition-times .ensures)
+    (l .largest .ensures)
     (at-choose .choose .ensures)
     (at-path-sums .path-sums .ensures)
     (c .reduce .ensures)
@@ -72,8 +58,6 @@ pub measure-spec : {M : Type 1} → statement M
 measure-spec =
     tie.close
     (tie.spec
-    slice-aggregate-start-marking
-    start-marking-requires
     transition-times-requires
     largest-requires
     choose-requires

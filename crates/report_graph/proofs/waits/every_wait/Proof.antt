@@ -6,20 +6,14 @@ use borrow.Author.Needs.{needs}
 use lib.ListN.{length}
 use lib.ListN.{length-set}
 use Rattle.report_graph.proofs.Waiting.{Summing, summing-more, summing-none, summing-waited}
-use Rattle.report_graph.proofs.waits.start_waits.Statement.{statement}
-use Rattle.report_graph.proofs.waits.start_waits.Tie as tie
+use Rattle.report_graph.proofs.waits.every_wait.Statement.{statement}
+use Rattle.report_graph.proofs.waits.every_wait.Tie as tie
 
 abbrev Inv-loop : tie.InvT-loop
-Inv-loop n e from to mark waits₀ marking t₀ waits t = (t ≤ 3 * n + 2) × (length waits ≡ length waits₀) × Summing n e from to marking t waits
+Inv-loop n e from to marking waits₀ t₀ waits t = (t ≤ 3 * n + 2) × (length waits ≡ length waits₀) × Summing n e from to marking t waits
 
 abbrev μ-loop : tie.MeasureT-loop
-μ-loop n e from to mark waits₀ marking t₀ waits t = 3 * n + 2 - t
-
-slice-aggregate-start-marking : tie.Need-slice-aggregate-start-marking Inv-loop μ-loop
-slice-aggregate-start-marking c = search needs
-
-start-marking-requires : tie.Need-start-marking-requires Inv-loop μ-loop
-start-marking-requires c κs = search needs
+μ-loop n e from to marking waits₀ t₀ waits t = 3 * n + 2 - t
 
 loop-holds : tie.Need-loop-holds Inv-loop μ-loop
 loop-holds c = (omega arith, refl, summing-none _)
@@ -30,14 +24,10 @@ mul-loop c = search needs
 add-loop : tie.Need-add-loop Inv-loop μ-loop
 add-loop c = search needs
 
-slice-aggregate-wait-sum : tie.Need-slice-aggregate-wait-sum Inv-loop μ-loop
-slice-aggregate-wait-sum c = search needs
-
 wait-sum-requires : tie.Need-wait-sum-requires Inv-loop μ-loop
 wait-sum-requires c κs =
-    let m = c .before .before .before .before in
-    let pre = m .before .before .before .pre in
-    record { wired = pre .wired; joined = pre .joined; long = omega (arith, m .start-marking .ensures .long, pre .marked .operations, pre .marked .edges); transition = omega arith }
+    let pre = c .before .before .before .before .pre in
+    record { wired = pre .wired; joined = pre .joined; long = omega (arith, pre .wired .operations, pre .wired .edges); transition = omega arith }
 
 mul-waits : tie.Need-mul-waits Inv-loop μ-loop
 mul-waits c = search needs
@@ -60,20 +50,17 @@ same-length : tie.Need-same-length Inv-loop μ-loop
 same-length c = search needs
 
 returns : tie.Need-returns Inv-loop μ-loop
-returns c = summing-waited (c .before .before .before .start-marking .ensures) (omega arith) (c .before .loop .inv .2) (c .before .loop .inv .1)
+returns c = summing-waited (omega arith) (c .before .loop .inv .2) (c .before .loop .inv .1)
 
-pub start-waits-spec : {M : Type 1} → statement M
-start-waits-spec =
+pub every-wait-spec : {M : Type 1} → statement M
+every-wait-spec =
     tie.close
     (tie.spec
     Inv-loop
     μ-loop
-    slice-aggregate-start-marking
-    start-marking-requires
     loop-holds
     mul-loop
     add-loop
-    slice-aggregate-wait-sum
     wait-sum-requires
     mul-waits
     slice-write-waits
