@@ -1,4 +1,4 @@
--- `raise_edge`: both ends of the edge are transitions, and the node that it enters is not the source.
+-- `raise_edge`: both ends of the edge are transitions.
 use Prim.Native.Nat.{_<_}
 use native.Mathlib.Omega.{arith}
 use borrow.Author.Needs.{needs}
@@ -48,24 +48,26 @@ shared-slice-read-raise-2 c = search needs
 raise-requires-2 : tie.Need-raise-requires-2
 raise-requires-2 c κs = let x = ends (c .before .before .before .before .before) in (x .1, x .0)
 
-element-copy-out-node : tie.Need-element-copy-out-node
-element-copy-out-node c = search needs
+mul-if1 : tie.Need-mul-if1
+mul-if1 c = search needs
 
-cast-node : tie.Need-cast-node
-cast-node c = search needs
+add-raise-2 : tie.Need-add-raise-2
+add-raise-2 c = search needs
+
+raise-requires-3 : tie.Need-raise-requires-3
+raise-requires-3 c κs = search needs
+
+add-raise-3 : tie.Need-add-raise-3
+add-raise-3 c = search needs
+
+add-raise-4 : tie.Need-add-raise-4
+add-raise-4 c = search needs
+
+raise-requires-4 : tie.Need-raise-requires-4
+raise-requires-4 c κs = search needs
 
 returns : tie.Need-returns
 returns c = search needs
-
-sub-raise-op : tie.Need-sub-raise-op
-sub-raise-op c =
-    let both = c .before .before in
-    let full = both .before .before .before in
-    let s = start (full .before .before .before) in
-    omega (arith, s .pre .0 .wired .enters _ (s .pre .1))
-
-raise-op-requires : tie.Need-raise-op-requires
-raise-op-requires c κs = search needs
 
 returns-2 : tie.Need-returns-2
 returns-2 c = search needs
@@ -86,9 +88,11 @@ raise-edge-spec =
     add-raise
     shared-slice-read-raise-2
     raise-requires-2
-    element-copy-out-node
-    cast-node
+    mul-if1
+    add-raise-2
+    raise-requires-3
+    add-raise-3
+    add-raise-4
+    raise-requires-4
     returns
-    sub-raise-op
-    raise-op-requires
     returns-2)

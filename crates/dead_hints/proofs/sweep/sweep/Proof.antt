@@ -6,10 +6,10 @@ use Rattle.dead_hints.proofs.sweep.sweep.Statement.{statement}
 use Rattle.dead_hints.proofs.sweep.sweep.Tie as tie
 
 abbrev Inv-loop : tie.InvT-loop
-Inv-loop n e from to marking level₀ raised₀ k₀ level raised k = k ≤ e
+Inv-loop n e from to marking level₀ k₀ level k = k ≤ e
 
 abbrev μ-loop : tie.MeasureT-loop
-μ-loop n e from to marking level₀ raised₀ k₀ level raised k = e - k
+μ-loop n e from to marking level₀ k₀ level k = e - k
 
 loop-holds : tie.Need-loop-holds Inv-loop μ-loop
 loop-holds c = omega arith
