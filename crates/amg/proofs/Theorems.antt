@@ -1,5 +1,5 @@
 -- What follows for the exported functions: files that differ only in labels get equal words and equal lent memory, so word and memory are determined; and the word can be taken apart again.
-use mathlib.Core.Path.{_≡_, ap, refl, subst, sym, _∙_}
+use mathlib.Core.Path.{_≡_, ap, subst, sym, _∙_}
 use mathlib.Core.List.{List}
 use Prim.Native.Nat.{ℕ, _/_, _%_, _<_, min}
 use native.Mathlib.Omega.{arith}

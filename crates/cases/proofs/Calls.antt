@@ -1,5 +1,5 @@
 -- Tests of markings of an accepted graph: the start, a marking that no firings lead to, and a step's 13.
-use mathlib.Core.Path.{_≡_, refl}
+use mathlib.Core.Path.{refl}
 use mathlib.Core.List.{List, [], _++_, _∷_}
 use Prim.Native.Nat.{_+_, suc, zero, ℕ}
 use lib.ListN.{length, replicate}
@@ -9,7 +9,6 @@ use Rattle.marked.specs.Net.{Net, at}
 use Rattle.marked.specs.Distance.{Distances}
 use Rattle.marked.proofs.Decide.{both?, each?, eq?, given?, le?, lt?, same?}
 use Rattle.marked.proofs.Reach.{reach}
-use Rattle.net.specs.Plan.{rows}
 use Rattle.net.specs.Graph.{netOf, startOf}
 use Rattle.net.specs.Good.{Good}
 use Rattle.net.proofs.Shapes.{wired-proper}

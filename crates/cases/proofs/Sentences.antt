@@ -1,10 +1,9 @@
 -- The test of each sentence of a file: what is passed gives what the sentence means.
-use mathlib.Core.Path.{_≡_, sym}
-use mathlib.Core.List.{List, _++_}
+use mathlib.Core.Path.{_≡_}
+use mathlib.Core.List.{List}
 use Prim.Native.Nat.{_<_, ℕ}
 use native.Mathlib.Omega.{arith}
-use lib.ListN.{drop, length}
-use Rattle.refusal.specs.declared.Refusal.{Refusal}
+use lib.ListN.{length}
 use Rattle.refusal.specs.declared.Verdict.{Verdict}
 use Rattle.refusal.specs.declared.Verdict.the-variants.{Accepted, Refused}
 use Rattle.refusal.proofs.Asked.{sound-next, sound-none}
@@ -15,7 +14,6 @@ use Rattle.net.specs.Good.{Good}
 use Rattle.file_trailer.specs.File.{planOf}
 use Rattle.reader.specs.Reply.{LookReply, shown}
 use Rattle.reader.specs.Outcome.{passed, refused as by-row}
-use Rattle.reader.specs.declared.graph.Graph.{Graph}
 use Rattle.reader.specs.declared.graph.Look.{Look}
 use Rattle.reader.proofs.Accepting.{accepted-good}
 use Rattle.stepping.specs.Replies.{refused as run-refused, started, stepped}

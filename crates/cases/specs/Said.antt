@@ -18,7 +18,7 @@ use Rattle.stepping.specs.Replies.{RunReply, StartReply, StepReply}
 use Rattle.waiting_graph.specs.declared.reply.Wait.the-variants.{Refused as WaitRefused}
 use Rattle.waiting.specs.Reply.{WaitReply}
 use Rattle.tbo.specs.TBO.{TBO}
-use Rattle.paths_finish.specs.Longest.{TBIO, TCE, TT}
+use Rattle.paths_finish.specs.Longest.{TBIO, TT}
 use Rattle.circuit.specs.Chosen.{Chosen}
 use Rattle.bounds_graph.specs.declared.reply.Measures.{Measures}
 use Rattle.report.specs.Reply.{ReportReply}

@@ -5,7 +5,7 @@ use circuit_tight::LOOSE;
 use net::PLACES;
 use net::TRANSITIONS;
 ghost use mathlib.Core.Path.{_≡_};
-ghost use Prim.Native.Nat.{_+_, _<_};
+ghost use Prim.Native.Nat.{_<_};
 ghost use lib.ListN.{length};
 ghost use Rattle.net.specs.Limits.{mostTransitions};
 ghost use Rattle.circuit_tight.specs.helpers.Lists.{Headed, Threaded, Listed};

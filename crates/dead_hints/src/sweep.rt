@@ -3,8 +3,8 @@ use net::EDGES;
 use net::TRANSITIONS;
 use net::ends::read_of;
 use net::ends::write_of;
-ghost use Prim.Native.Nat.{_+_, _*_, _<_, _≤_};
-ghost use Rattle.net.specs.Limits.{mostOperations, mostTransitions};
+ghost use Prim.Native.Nat.{_<_};
+ghost use Rattle.net.specs.Limits.{mostTransitions};
 ghost use Rattle.net.specs.helpers.Lent.{Lent};
 
 // One place, from s to t: while it is empty, t stands above s.

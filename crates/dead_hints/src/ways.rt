@@ -5,7 +5,7 @@ use dead_lists::follow;
 use dead_lists::goal_of;
 use net::PLACES;
 use net::TRANSITIONS;
-ghost use Prim.Native.Nat.{_+_, _*_, _<_, _≤_};
+ghost use Prim.Native.Nat.{_<_, _≤_};
 ghost use Rattle.net.specs.Limits.{mostTransitions};
 
 // t joins the queue. The answer is its new length.

@@ -5,7 +5,7 @@ use dead_lists::follow;
 use dead_lists::goal_of;
 use net::PLACES;
 use net::TRANSITIONS;
-ghost use Prim.Native.Nat.{_+_, _*_, _<_, _≤_};
+ghost use Prim.Native.Nat.{_<_, _≤_};
 ghost use Rattle.net.specs.Limits.{mostOperations, mostTransitions};
 
 // The level of the first component, which leads to no other. Each later one gets the next lower: all stay above the numbers of the search.

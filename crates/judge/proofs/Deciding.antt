@@ -2,14 +2,14 @@
 use mathlib.Core.Path.{_≡_, refl}
 use mathlib.Core.Logic.{_⊎_, inl, inr}
 use mathlib.Core.List.{List, [], _∷_}
-use Prim.Native.Nat.{_+_, _<_, _≤_, suc, zero, ℕ}
+use Prim.Native.Nat.{_+_, _<_, suc, zero, ℕ}
 use native.Mathlib.Decide.{ℕ-discrete}
 use native.Mathlib.Omega.{arith}
 use lib.Dec.{T, eqb, eqb→eq, eqb-refl}
 use Rattle.refusal.specs.Asking.{Ask, Judged, Kept, Lowest, given, sound}
 use Rattle.refusal.specs.declared.Verdict.{Verdict}
 use Rattle.refusal.specs.declared.Verdict.the-variants.{Accepted, Refused}
-use Rattle.refusal.proofs.Asked.{given-here, judged-next, sound-next, sound-none}
+use Rattle.refusal.proofs.Asked.{given-here, judged-next, sound-none}
 use Rattle.marked.specs.Net.{Proper}
 use Rattle.marked.proofs.Decide.{le?, lt?, eq?, both?, given?, same?}
 use Rattle.net.specs.Limits.{Within}

@@ -3,7 +3,6 @@ use casts::byte_index;
 use net::EDGES;
 use net::NODES;
 use refusal::Found;
-ghost use mathlib.Core.Path.{_≡_};
 ghost use Prim.Native.Nat.{_≤_};
 ghost use Rattle.net.specs.Limits.{mostEdges};
 ghost use Rattle.net.specs.Good.{Wired};

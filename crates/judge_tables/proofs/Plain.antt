@@ -1,5 +1,5 @@
 -- Where the extremes of every row are allowed, every edge is.
-use Prim.Native.Nat.{ℕ, _≤_, _<_}
+use Prim.Native.Nat.{ℕ, _≤_}
 use mathlib.Core.List.{List, []}
 use native.Mathlib.Omega.{arith}
 use Rattle.refusal.specs.Asking.{Kept}

@@ -2,7 +2,7 @@
 use casts::byte_index;
 use net::EDGES;
 use net::NODES;
-ghost use Prim.Native.Nat.{_+_, _*_, _<_, _≤_};
+ghost use Prim.Native.Nat.{_<_, _≤_};
 ghost use Rattle.net.specs.Limits.{mostNodes};
 ghost use Rattle.judge_tour.specs.helpers.Ended.{Ended};
 

@@ -1,11 +1,10 @@
 -- Markings and times that agree on a net's places and transitions give the same largest time per token.
-use mathlib.Core.Path.{_≡_, ap, sym}
+use mathlib.Core.Path.{_≡_, ap}
 use mathlib.Core.List.{List}
-use Prim.Native.Nat.{_*_, _+_, _<_, _≤_, ℕ}
+use Prim.Native.Nat.{_*_, _<_, ℕ}
 use native.Mathlib.Omega.{arith}
 use Rattle.marked.specs.Sums.{sum}
 use Rattle.marked.specs.Net.{Net, Proper, Walk, go, lasts, stop, tokens}
-use Rattle.marked.specs.Circuits.{Circuit}
 use Rattle.marked.specs.Bounds.{Attains, Largest}
 
 -- Along a walk, what agrees on the places adds up to the same.

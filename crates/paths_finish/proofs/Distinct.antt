@@ -3,7 +3,7 @@
 use mathlib.Core.Path.{_≡_, _∙_, ap, refl, subst, sym}
 use mathlib.Core.Logic.{_≢_}
 use mathlib.Core.List.{List, [], _∷_}
-use Prim.Native.Nat.{_*_, _+_, _-_, _/_, _<_, _≤_, suc, zero, ℕ}
+use Prim.Native.Nat.{_*_, _+_, _-_, _<_, _≤_, suc, zero, ℕ}
 use native.Mathlib.Decide.{ℕ-discrete}
 use native.Mathlib.Numerals.{add-one}
 use native.Mathlib.Omega.{arith}
@@ -15,7 +15,7 @@ use Rattle.marked.specs.Net.Walk.{go, stop}
 use Rattle.marked.proofs.Entries.{all-map}
 use Rattle.marked.proofs.Pigeonhole.{sum-distinct}
 use Rattle.net.specs.Plan.{Plan}
-use Rattle.net.specs.Ends.{readOf, writeOf}
+use Rattle.net.specs.Ends.{readOf}
 use Rattle.net.specs.Graph.{netOf, startOf}
 use Rattle.net.proofs.Shapes.{dst-op, full-dst, full-src, full-start, src-op, start-ring}
 use Rattle.paths_finish.specs.Modified.{Path, nodeTime, pathTime}

@@ -1,6 +1,6 @@
 -- One outcome for a file and its rows, whatever the labels: what every call above look rests its own theorems on.
 use Prim.Native.Nat.{ℕ}
-use mathlib.Core.Path.{_≡_, ap, subst, sym, _∙_}
+use mathlib.Core.Path.{_≡_, ap, subst}
 use mathlib.Core.List.{List}
 use native.Mathlib.Omega.{arith}
 use Rattle.refusal.specs.Asking.{Ask, Given}

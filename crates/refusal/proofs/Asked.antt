@@ -1,8 +1,8 @@
 -- Rows asked one after the other: how what a test or a search answers decides a list of rows.
 use mathlib.Core.Path.{_≡_, refl, subst, sym}
-use mathlib.Core.Logic.{_⊎_, inl, inr}
+use mathlib.Core.Logic.{inl, inr}
 use mathlib.Core.List.{List, [], _++_, _∷_}
-use Prim.Native.Nat.{ℕ, _<_}
+use Prim.Native.Nat.{ℕ}
 use native.Mathlib.Omega.{arith}
 use Rattle.refusal.specs.Asking.{AllKept, Ask, FirstBroken, Given, Judged, Kept, Lowest, Sound, asked, given, sound}
 use Rattle.refusal.specs.helpers.Answers.{Finds}

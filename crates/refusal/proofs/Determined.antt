@@ -2,7 +2,7 @@
 use mathlib.Core.Path.{_≡_, ap, refl}
 use mathlib.Core.Logic.{inl, inr}
 use mathlib.Core.List.{List, [], _∷_}
-use Prim.Native.Nat.{ℕ, _<_}
+use Prim.Native.Nat.{ℕ}
 use native.Mathlib.Omega.{arith}
 use native.Mathlib.Decide.{decLt}
 use Rattle.refusal.specs.Asking.{AllKept, Ask, FirstBroken, Given, Judged, Lowest, Sound, given, sound}

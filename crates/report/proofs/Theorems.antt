@@ -17,7 +17,7 @@ use Rattle.net.specs.Good.{Good}
 use Rattle.net.proofs.Shapes.{wired-proper}
 use Rattle.file.specs.Labels.{SameButLabels}
 use Rattle.reader.specs.Reply.{shown}
-use Rattle.reader.specs.Outcome.{Ends, accepted, passed, refusal, refused as stopped, unread}
+use Rattle.reader.specs.Outcome.{Ends, accepted, passed, refused as stopped, unread}
 use Rattle.reader.specs.declared.graph.Graph.{Graph}
 use Rattle.reader.proofs.Accepting.{accepted-good}
 use Rattle.reader.proofs.Outcomes.{accepted-not-refused, accepted-same, outcome-carries, outcome-determined, refusal-same}

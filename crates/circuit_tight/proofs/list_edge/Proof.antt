@@ -4,10 +4,6 @@ use Rattle.circuit_tight.proofs.ListRows.{edge-listed}
 use Rattle.fraction.proofs.Loads.{edge-runs, place-time, place-tokens, place-within}
 use Rattle.circuit_tight.proofs.list_edge.Statement.{statement}
 use Rattle.circuit_tight.proofs.list_edge.Tie as tie
-use Prim.Native.Nat.{ℕ, _*_}
-use mathlib.Core.Path.{_∙_, ap}
-use denote.Ref.{now}
-use native.Mathlib.Omega.{arith}
 use borrow.Author.Needs.{needs}
 
 mul-p : tie.Need-mul-p

@@ -4,8 +4,6 @@ use Rattle.circuit_tight.proofs.ListRows.{op-listed}
 use Rattle.fraction.proofs.Loads.{place-time, place-tokens, place-within, row-runs}
 use Rattle.circuit_tight.proofs.list_op.Statement.{statement}
 use Rattle.circuit_tight.proofs.list_op.Tie as tie
-use denote.Ref.{now}
-use native.Mathlib.Omega.{arith}
 use borrow.Author.Needs.{needs}
 
 mul-p : tie.Need-mul-p

@@ -1,5 +1,4 @@
 -- Every time is within its limits, and the next row is asked; or the lowest operation whose is not.
-use Prim.Native.Nat.{ℕ}
 use denote.Ref.{now}
 use native.Mathlib.Omega.{arith}
 use borrow.Author.Needs.{needs}

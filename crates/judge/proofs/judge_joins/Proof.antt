@@ -1,5 +1,4 @@
 -- Every node is joined to the source, and the next row is asked; or the lowest that is not.
-use Prim.Native.Nat.{ℕ}
 use denote.Ref.{now}
 use native.Mathlib.Omega.{arith}
 use borrow.Author.Needs.{needs}

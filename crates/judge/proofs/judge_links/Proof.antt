@@ -1,5 +1,4 @@
 -- Every node has its edges, and the next row is asked; or the lowest that lacks one.
-use Prim.Native.Nat.{ℕ}
 use denote.Ref.{now}
 use native.Mathlib.Omega.{arith}
 use borrow.Author.Needs.{needs}

@@ -1,5 +1,4 @@
 -- No transition, or the lowest, is on a circuit without a token.
-use Prim.Native.Nat.{ℕ}
 use denote.Ref.{now}
 use native.Mathlib.Omega.{arith}
 use borrow.Author.Needs.{needs}

@@ -1,6 +1,5 @@
 -- 14 first; then look's refusal on its line, or the report of look's graph, which is good.
-use mathlib.Core.Path.{refl}
-use Prim.Native.Nat.{ℕ, _≤_}
+use Prim.Native.Nat.{_≤_}
 use lib.ListN.{length}
 use borrow.Author.Tests.{not-false, not-true}
 use native.Mathlib.Omega.{arith}
@@ -9,7 +8,6 @@ use Rattle.refusal.proofs.Answers.{denied, said}
 use Rattle.refusal.proofs.Asked.{sound-next, sound-none}
 use Rattle.net.specs.Good.{Good}
 use Rattle.reader.specs.Outcome.{passed, unread}
-use Rattle.reader.specs.declared.graph.Graph.{Graph}
 use Rattle.reader.proofs.Accepting.{accepted-good}
 use Rattle.report_text.specs.Room.{reportBytes}
 use Rattle.report.specs.Reply.{refused, short, written}

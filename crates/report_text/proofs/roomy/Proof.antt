@@ -1,5 +1,4 @@
 -- The limit of the room.
-use borrow.Author.Needs.{needs}
 use native.Mathlib.Omega.{arith}
 use Rattle.refusal.specs.helpers.Answers.{fails, holds}
 use Rattle.report_text.proofs.roomy.Statement.{statement}

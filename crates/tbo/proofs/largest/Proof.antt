@@ -2,7 +2,6 @@
 use Prim.Native.Nat.{_+_, _*_}
 use borrow.Author.Needs.{needs}
 use mathlib.Core.Path.{refl}
-use denote.Ref.{now}
 use native.Mathlib.Omega.{arith}
 use Rattle.marked.specs.Net.{at}
 use Rattle.net.specs.Graph.{netOf}

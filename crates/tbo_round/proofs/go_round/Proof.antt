@@ -1,6 +1,4 @@
 -- The invariant: k noted places lead from x to w, with that time and those tokens.
-use denote.Ref.{now}
-use mathlib.Core.Path.{_∙_, ap}
 use Prim.Native.Nat.{_+_, _*_, _-_}
 use borrow.Author.Needs.{needs}
 use native.Mathlib.Omega.{arith}

@@ -4,10 +4,8 @@ use Rattle.tbo_sweep.proofs.Sweeping.{room-more, room-raised}
 use Rattle.fraction.proofs.Loads.{edge-runs, place-gain, place-time, place-tokens, place-within}
 use Rattle.fraction.specs.helpers.Loaded.{highest, mostTime}
 use Prim.Native.Nat.{_*_}
-use Prim.Native.Nat.{ℕ, _*_}
-use mathlib.Core.Path.{_∙_, ap}
+use Prim.Native.Nat.{_*_}
 use native.Mathlib.Omega.{arith}
-use denote.Ref.{now}
 use borrow.Author.Needs.{needs}
 use Rattle.tbo_sweep.proofs.raise_edge.Statement.{statement}
 use Rattle.tbo_sweep.proofs.raise_edge.Tie as tie

@@ -1,6 +1,5 @@
 -- An operation or an edge.
 use Prim.Native.Nat.{_-_}
-use denote.Ref.{now}
 use native.Mathlib.Omega.{arith}
 use Rattle.tbo_order.proofs.Sorting.{item-edge, item-op}
 use Rattle.tbo_sweep.proofs.Among.{of-edge, of-op}

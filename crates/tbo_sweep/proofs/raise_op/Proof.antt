@@ -5,7 +5,6 @@ use Rattle.fraction.proofs.Loads.{place-gain, place-time, place-tokens, place-w
 use Rattle.fraction.specs.helpers.Loaded.{highest, mostTime}
 use Prim.Native.Nat.{_*_, _+_}
 use native.Mathlib.Omega.{arith}
-use denote.Ref.{now}
 use borrow.Author.Needs.{needs}
 use Rattle.tbo_sweep.proofs.raise_op.Statement.{statement}
 use Rattle.tbo_sweep.proofs.raise_op.Tie as tie

@@ -1,5 +1,4 @@
 -- Each test that fails gives its refusal, since the tests before it have passed.
-use mathlib.Core.Path.{refl}
 use borrow.Author.Needs.{needs}
 use borrow.Author.Tests.{not-true, not-false}
 use denote.Ref.{now}

@@ -3,7 +3,6 @@ use Rattle.tbo_round.proofs.Chains.{notes-of}
 -- The invariant: k sweeps have led here. A sweep that raises nothing certifies; notes that come round are a better closed walk; and after as many sweeps as transitions they do.
 use Prim.Native.Nat.{_+_, _*_, _-_}
 use mathlib.Core.Path.{refl}
-use denote.Ref.{now}
 use native.Mathlib.Omega.{arith}
 use Rattle.marked.specs.Net.{at}
 use Rattle.net.specs.Graph.{netOf}

@@ -1,7 +1,5 @@
 -- A frame that is wrong gives its refusal; else the verdict on the graph that is read is the file's.
 use mathlib.Core.Path.{subst}
-use mathlib.Core.List.{List}
-use Prim.Native.Nat.{ℕ}
 use borrow.Author.Needs.{needs}
 use denote.Ref.{now}
 use Rattle.refusal.specs.Asking.{Judged}
