@@ -1,4 +1,6 @@
 // The calls for C and for Rust, declared in include/amg.h. Each makes one call of the crates below, and its word tells that call's reply.
+#![tactic(auto)]
+
 ghost use Rattle.amg.specs.Calls.{BoundsCall, LookCall, ReportCall, RunCall, StartCall, StepCall, WaitCall};
 ghost use Rattle.amg.specs.Tables.{tables};
 

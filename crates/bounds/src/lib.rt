@@ -1,4 +1,6 @@
 // `bounds`: TBO with its circuit, TBIO, TT and TCE of a file's graph.
+#![tactic(auto)]
+
 ghost use Rattle.bounds.specs.Reply.{BoundsReply};
 
 use bounds_graph::answer::answer;

@@ -1,1 +1,3 @@
 // Document 01's graphs worked through. It has no code: the table is in specs/, and that it holds is proved in proofs/.
+#![tactic(auto)]
+

@@ -1,4 +1,6 @@
 // Narrow numbers made wide: one function for each pair of types, since a cast of an element asks that it fits each time.
+#![tactic(auto)]
+
 ghost use Rattle.std.specs.Prelude.{◌≡◌, ◌<◌};
 
 pub fn byte_index(x: u8) -> usize

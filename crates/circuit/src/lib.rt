@@ -1,4 +1,6 @@
 // The circuit that attains TBO: of those that do, written lowest place first, the first in dictionary order.
+#![tactic(auto)]
+
 mod write;
 
 ghost use Rattle.std.specs.Prelude.{◌+◌, ◌*◌, ◌≤◌, length};

@@ -1,4 +1,6 @@
 // The lowest place on a circuit of tight places, and the first such circuit: an ordered depth-first search that never takes a mark back.
+#![tactic(auto)]
+
 ghost use Rattle.std.specs.Prelude.{◌≡◌, ◌<◌, length};
 ghost use Rattle.net.specs.Limits.{most_transitions};
 ghost use Rattle.circuit_tight.specs.helpers.Lists.{Headed, Threaded, Listed};

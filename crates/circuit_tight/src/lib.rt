@@ -1,4 +1,6 @@
 // The tight places, listed once: for each transition those that leave it, in rising order.
+#![tactic(auto)]
+
 ghost use Rattle.std.specs.Prelude.{ℕ, ◌+◌, ◌*◌, ◌<◌, ◌≤◌};
 ghost use Rattle.marked.specs.Net.{at};
 ghost use Rattle.net.specs.Limits.{longest_time, most_places, most_transitions};

@@ -1,4 +1,6 @@
 // Levels by strong components, found by a depth-first search (Tarjan): transitions of one component share a level, and an empty place out of it leads higher.
+#![tactic(auto)]
+
 ghost use Rattle.std.specs.Prelude.{◌<◌, ◌≤◌};
 ghost use Rattle.net.specs.Limits.{most_operations, most_transitions};
 

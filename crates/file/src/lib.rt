@@ -1,4 +1,6 @@
 // A file: its sizes, and its frame, rows 1 to 4.
+#![tactic(auto)]
+
 pub mod frame;
 
 use file_trailer::TRAILER;

@@ -1,4 +1,6 @@
 // The trailer that a file ends with, and its five numbers.
+#![tactic(auto)]
+
 ghost use Rattle.std.specs.Prelude.{length};
 ghost use Rattle.file_trailer.specs.Limits.{FileLength};
 ghost use Rattle.file_trailer.specs.helpers.Trailer.{TrailerOf};

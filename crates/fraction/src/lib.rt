@@ -1,3 +1,5 @@
 // A fraction of time per token: what a place weighs at it, and its lowest terms.
+#![tactic(auto)]
+
 pub mod lowest;
 pub mod weigh;

@@ -1,4 +1,6 @@
 // The verdict on a graph: rows 5 to 9, asked in order of its rows. The graph may come from a file or from lists.
+#![tactic(auto)]
+
 mod tokens;
 
 ghost use Rattle.std.specs.Prelude.{[]};

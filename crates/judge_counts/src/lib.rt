@@ -1,4 +1,6 @@
 // Row 3: how many operations and edges a graph may have, wherever its counts come from.
+#![tactic(auto)]
+
 ghost use Rattle.refusal.specs.helpers.Answers.{Says};
 ghost use Rattle.net.specs.Limits.{Counted};
 

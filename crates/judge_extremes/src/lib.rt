@@ -1,4 +1,6 @@
 // The extremes of a row. No test leaves these loops early, so the processor takes many entries at once.
+#![tactic(auto)]
+
 ghost use Rattle.std.specs.Prelude.{◌≤◌};
 ghost use Rattle.net.specs.Limits.{most_edges};
 ghost use Rattle.judge_extremes.specs.helpers.Extremes.{NoneAbove, NoneBelow};

@@ -1,4 +1,6 @@
 // Row 8: the lowest node that is not joined to the source. Marks spread along the edges, pass after pass, until a pass marks nothing; a tour saves passes.
+#![tactic(auto)]
+
 ghost use Rattle.std.specs.Prelude.{◌<◌};
 ghost use Rattle.net.specs.Good.{Wired};
 ghost use Rattle.net.specs.Rules.{row8};

@@ -1,4 +1,6 @@
 // Row 7: the lowest node that lacks an edge out or an edge in. One pass over the edges, then one over the nodes.
+#![tactic(auto)]
+
 ghost use Rattle.std.specs.Prelude.{◌≤◌};
 ghost use Rattle.net.specs.Limits.{most_edges};
 ghost use Rattle.net.specs.Good.{Wired};

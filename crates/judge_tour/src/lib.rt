@@ -1,4 +1,6 @@
 // A hint for row 8: the edge by which a search from the source first reaches each node, in the order of the search. Only proved safe.
+#![tactic(auto)]
+
 ghost use Rattle.std.specs.Prelude.{◌<◌, ◌≤◌};
 ghost use Rattle.net.specs.Limits.{most_nodes};
 ghost use Rattle.judge_tour.specs.helpers.Ended.{Ended};

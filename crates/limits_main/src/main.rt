@@ -1,4 +1,6 @@
 // Prints the limits of a graph and of its file: the lowest number that is allowed, and the highest.
+#![tactic(auto)]
+
 use reader::graph::Graph;
 
 fn line(name: &[u8], lowest: u64, highest: u64) {

@@ -1,4 +1,6 @@
 // Little-endian numbers, read from a slice of bytes.
+#![tactic(auto)]
+
 ghost use Rattle.std.specs.Prelude.{◌≡◌, ◌+◌, ◌<◌, length};
 ghost use Rattle.little.specs.Little.{byte_at, word, quad};
 

@@ -13,9 +13,12 @@ use Rattle.marked.proofs.Walks.{ends_same, froms_append, part, rest, starts}
 use Rattle.marked.proofs.Entries.{all_right}
 
 -- No list stands before itself,
+before_differs : {ps qs : List ℕ} → Before ps qs → ¬ (ps ≡ qs)
+before_differs (lower {p = p} {q = q} h) e = let same : p ≡ q = cc in omega arith
+before_differs (later {ps = ps} {qs = qs} b) e = before_differs b (let same : ps ≡ qs = cc in same)
+
 pub before_irreflexive : {ps : List ℕ} → ¬ Before ps ps
-before_irreflexive (lower h) = omega arith
-before_irreflexive (later b) = before_irreflexive b
+before_irreflexive b = before_differs b refl
 
 -- the order goes on,
 pub before_transitive : {ps qs rs : List ℕ} → Before ps qs → Before qs rs → Before ps rs

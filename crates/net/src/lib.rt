@@ -1,4 +1,6 @@
 // The computational graph of document 01, over the operation count and the rows of the edges.
+#![tactic(auto)]
+
 pub mod ends;
 
 // The fewest and the most operations and edges: arrays have room for the most.

@@ -1,4 +1,6 @@
 // Prints the dead transition, if there is one, and the distances from every transition, for document 01's graphs P1 to P6 at the start.
+#![tactic(auto)]
+
 ghost use Rattle.std.specs.Prelude.{◌+◌, ◌*◌, ◌<◌, ◌≤◌};
 ghost use Rattle.net.specs.helpers.Lent.{Lent};
 ghost use Rattle.net_main.specs.Columns.{Column, Held};

@@ -1,4 +1,6 @@
 // TBIO, TT and TCE of a graph given by rows: the longest paths of the modified graph of 000, Definition 12, and the sum of all times.
+#![tactic(auto)]
+
 ghost use Rattle.std.specs.Prelude.{◌≡◌, ℕ, ◌+◌, ◌<◌, ◌≤◌};
 ghost use Rattle.marked.specs.Sums.{upto};
 ghost use Rattle.marked.specs.Net.{at};

@@ -1,4 +1,6 @@
 // When each node is done, if nothing but data is waited for: longest paths, by raising the targets of the edges until nothing changes.
+#![tactic(auto)]
+
 ghost use Rattle.std.specs.Prelude.{◌≡◌, ◌<◌, ◌≤◌};
 ghost use Rattle.marked.specs.Net.{at};
 ghost use Rattle.net.specs.Plan.{time_at};

@@ -1,4 +1,6 @@
 // The pen: a writer that holds the lent report buffer and its fill, and the lines that it writes.
+#![tactic(auto)]
+
 ghost use Rattle.std.specs.Prelude.{◌≡◌};
 ghost use Rattle.pen_put.specs.Digits.{digits};
 ghost use Rattle.pen_put.specs.Lines.{HasRoom, Put, item, item_line, line_end, pair_line};

@@ -1,4 +1,6 @@
 // Shows the pen at work: lines from the smallest number to the largest, put together as a report's are.
+#![tactic(auto)]
+
 ghost use Rattle.pen_put.specs.Lines.{HasRoom, Put};
 ghost use Rattle.pen_main.specs.Page.{number_row, page};
 

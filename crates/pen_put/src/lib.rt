@@ -1,4 +1,6 @@
 // Plain functions that put a word, a number or a line end into a lent buffer, from a place on.
+#![tactic(auto)]
+
 ghost use Rattle.pen_put.specs.Digits.{digits};
 ghost use Rattle.pen_put.specs.Lines.{HasRoom, Put, line_end};
 

@@ -1,4 +1,6 @@
 // The file reader: the one place where the bytes of a file become a graph.
+#![tactic(auto)]
+
 pub mod graph;
 mod read;
 

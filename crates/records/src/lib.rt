@@ -1,4 +1,6 @@
 // Records of calls (docs/CALLS.md): each is played, and printed as a line. For programs that try the calls.
+#![tactic(auto)]
+
 mod calls;
 
 ghost use Rattle.std.specs.Prelude.{◌≡◌, ◌<◌, ◌≤◌, length};

@@ -1,4 +1,6 @@
 // The calls on a graph and its marking, each with its line: the name, the refusal's number and place, the values, and the lent memory afterwards.
+#![tactic(auto)]
+
 ghost use Rattle.std.specs.Prelude.{◌≤◌};
 ghost use Rattle.net.specs.Limits.{most_edges, most_operations};
 

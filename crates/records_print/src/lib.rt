@@ -1,4 +1,6 @@
 // What a line is made of: words, numbers behind a blank, and the lent memory, which ends it.
+#![tactic(auto)]
+
 ghost use Rattle.records_print.specs.Page.{Page, Roomy};
 
 use casts::byte_word;

@@ -1,4 +1,6 @@
 // Refusals: rows asked in order, each carrying its number, and what tests and searches of a row answer. Lowest of all crates.
+#![tactic(auto)]
+
 ghost use Rattle.std.specs.Prelude.{◌≡◌, ◌<◌};
 ghost use Rattle.refusal.specs.declared.Verdict.TheVariants.{Refused};
 ghost use Rattle.refusal.specs.None.{no_refusal, refusal_of};

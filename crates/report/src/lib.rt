@@ -1,4 +1,6 @@
 // `report`: the text of a file's report, in a lent buffer.
+#![tactic(auto)]
+
 ghost use Rattle.report.specs.Reply.{ReportReply};
 
 use reader::look;

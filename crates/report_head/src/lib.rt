@@ -1,4 +1,6 @@
 // The lines before the waits, over plain values: one function a line, each written behind the last into the lent buffer.
+#![tactic(auto)]
+
 ghost use Rattle.pen_put.specs.Lines.{HasRoom, Put, item};
 ghost use Rattle.report_text.specs.Words.{blank_word};
 ghost use Rattle.report_text.specs.Text.{ops_line, bound_lines, ring_places, circuit_line, head_text};

@@ -1,4 +1,6 @@
 // The lines of a report, from its numbers: the text of an accepted file, line by line, and that of a refused one, in a lent buffer.
+#![tactic(auto)]
+
 mod waits;
 
 ghost use Rattle.std.specs.Prelude.{◌≤◌, length};

@@ -1,4 +1,6 @@
 // Reads a file from standard input and prints its report.
+#![tactic(auto)]
+
 use reader::graph::Graph;
 
 // Room for the longest file and one byte more: a file that fills it is too long, and is refused for that.

@@ -1,4 +1,6 @@
 // The report's words, its text and its room: definitions and laws, and the test of row 14.
+#![tactic(auto)]
+
 ghost use Rattle.std.specs.Prelude.{◌≤◌};
 ghost use Rattle.refusal.specs.helpers.Answers.{Says};
 ghost use Rattle.report_text.specs.Room.{report_bytes};

@@ -1,4 +1,6 @@
 // One entry of a run: the record and the marking are handed over, and both come back. `entry_core` is its work by value, `take` lends a local.
+#![tactic(auto)]
+
 ghost use Rattle.running_entry.specs.Entry.{EntryTaken};
 ghost use Rattle.running_entry.specs.helpers.Ready.{EntryReady};
 

@@ -1,4 +1,6 @@
 // `start`, `step` and `run`: the calls that write a marking, one byte a place.
+#![tactic(auto)]
+
 ghost use Rattle.stepping.specs.Replies.{RunReply, StartReply, StepReply};
 
 use firing::step::Answer;

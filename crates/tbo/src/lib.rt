@@ -1,4 +1,6 @@
 // TBO: the largest time per token of a circuit of the computational graph, with a certificate that no circuit has more.
+#![tactic(auto)]
+
 pub mod improve;
 
 ghost use Rattle.std.specs.Prelude.{◌≡◌, ◌+◌, ◌*◌, ◌<◌, ◌≤◌};

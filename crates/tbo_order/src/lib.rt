@@ -1,5 +1,7 @@
 // The order in which a sweep takes operations and edges: along the places without a token, so that one sweep carries a rise along a whole way of them.
 // Any order is right, and only the number of sweeps depends on it: so what is proved of it is that no item is missing.
+#![tactic(auto)]
+
 ghost use Rattle.std.specs.Prelude.{◌≡◌, true, ◌+◌, ◌<◌, ◌≤◌, length};
 ghost use Rattle.net.specs.Limits.{most_edges, most_operations, most_transitions};
 ghost use Rattle.net.specs.Good.{Wired};

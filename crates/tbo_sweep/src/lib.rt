@@ -1,4 +1,6 @@
 // One sweep: every place once. Where a place leads higher than its transition stands, the transition is raised and the place noted.
+#![tactic(auto)]
+
 ghost use Rattle.std.specs.Prelude.{◌+◌, ◌*◌, ◌<◌, ◌≤◌};
 ghost use Rattle.marked.specs.Net.{at};
 ghost use Rattle.net.specs.Limits.{longest_time, most_places, most_transitions};

@@ -1,5 +1,7 @@
 // For each file on standard input (two bytes of length, then the file): the wait of every transition, from the start and from two markings that are reached.
 // Each is tried by firing: the lowest other transition that is enabled fires for as long as there is one, and then the transition asked for is enabled.
+#![tactic(auto)]
+
 ghost use Rattle.std.specs.Prelude.{◌≡◌, length};
 ghost use Rattle.net.specs.Limits.{most_places};
 ghost use Rattle.net.specs.Good.{Marked, Wired};

@@ -1,4 +1,6 @@
 // `wait`: how many firings a transition can be kept waiting for.
+#![tactic(auto)]
+
 ghost use Rattle.waiting.specs.Reply.{WaitReply};
 
 use reader::look;
