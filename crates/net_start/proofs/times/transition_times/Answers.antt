@@ -1,0 +1,14 @@
+-- The invariant: the transitions before row i's process have their times.
+use Rattle.net_start.proofs.Timing.{timed_none, timed_on}
+use native.Mathlib.Omega.{arith}
+use Prim.Native.Nat.{◌-◌}
+use Rattle.net_start.proofs.times.transition_times.Goals as goal
+
+pub loop-i-init : goal.loop-i-init
+loop-i-init c = (omega arith, timed_none c.args.times.now)
+
+pub loop-i-preserved : goal.loop-i-preserved
+loop-i-preserved c = (omega arith, timed_on (omega arith) c.loop-i.invariant.1)
+
+pub returns : goal.returns
+returns c = record { each = λ t h. c.loop-i.invariant.1.each t (omega arith) }
