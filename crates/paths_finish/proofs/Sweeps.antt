@@ -32,12 +32,12 @@ module _ {n e : ℕ} {times from to mark buffers : List ℕ} where
 
   -- One edge more.
   pub swept_more :
-      {a b d : List ℕ} {x y : Bool} {k : ℕ} → k < e → EdgesSwept n e times from to mark buffers k a b x → Lifted b (at to k) (done_by n times from to mark b k) x d y
+      {k : ℕ} {a b d : List ℕ} {x y : Bool} → k < e → EdgesSwept n e times from to mark buffers k a b x → Lifted b (at to k) (done_by n times from to mark b k) x d y
       → EdgesSwept n e times from to mark buffers (k + 1) a d y
-  swept_more {b} {k} h s (lifted l) =
+  swept_more {k} {b = b} h s (lifted l) =
       let more = total_rises b (at to k) _ (inside s.backed h) l in
       record { backed = lifted_backed s.backed h; rises = omega (arith, s.rises); quiet = λ i. differ i; loud = λ i. omega (arith, s.rises) }
-  swept_more {b} {k} h s (kept l) =
+  swept_more {k} {b = b} h s (kept l) =
       record {
         backed = s.backed;
         rises = s.rises;
