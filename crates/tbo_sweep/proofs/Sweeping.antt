@@ -66,10 +66,10 @@ module _ {g : Net} {m time : ℕ → ℕ} {a b : ℕ} where
 
   module _ (small : g.transitions ≤ 122) where
     swept_one :
-        {d c h k : List ℕ} {x y : ℕ} (q : ℕ) → q < g.places → g.dst q < g.transitions →
+        (q : ℕ) {d c h k : List ℕ} {x y : ℕ} → q < g.places → g.dst q < g.transitions →
         Raised (g.src q) (g.dst q) q (b * time (g.src q)) (a * m q) d c x h k y →
         SweptOver g m time a b (◌≡ q) 1 (at d) (at c) (at h) (at k) x y
-    swept_one {d} {c} q i l (raised hd hc j) =
+    swept_one q {d} {c} i l (raised hd hc j) =
         let t = g.dst q in
         let v = get_or d (g.src q) 0 + b * time (g.src q) - a * m q in
         let e : get_or (set d t v) t 0 ≡ v = get_or-set_same d t v 0 hd in
@@ -89,7 +89,7 @@ module _ {g : Net} {m time : ℕ → ℕ} {a b : ℕ} where
           quiet = λ e. absurd (omega arith);
           loud = inr (l, omega arith);
         }
-    swept_one {d} {c} q i l (kept j) = record {
+    swept_one q {d} {c} i l (kept j) = record {
       rises = 0;
       few = omega arith;
       lifts = none;
