@@ -29,12 +29,42 @@ pub fn fill<'a>(w: Writer<'a>) -> usize
     w.at
 }
 
+// Writes a word, where the writer stands.
+fn add_word(w: &mut Writer, s: &[u8])
+    requires { HasRoom w.old.buf.now w.old.at s.now }
+    ensures writer { w.new ≡ wrote w.old s.now }
+    ensures same_reference { w.new.buf.ghost_name ≡ w.old.buf.ghost_name }
+{
+    let at = w.at;
+    w.at = put_word(w.buf, at, s);
+}
+
+// Writes a number's decimal digits, where the writer stands.
+fn add_number(w: &mut Writer, n: u64)
+    requires { HasRoom w.old.buf.now w.old.at (digits n) }
+    ensures writer { w.new ≡ wrote w.old (digits n) }
+    ensures same_reference { w.new.buf.ghost_name ≡ w.old.buf.ghost_name }
+{
+    let at = w.at;
+    w.at = put_number(w.buf, at, n);
+}
+
+// Ends the line, where the writer stands.
+fn add_newline(w: &mut Writer)
+    requires { HasRoom w.old.buf.now w.old.at line_end }
+    ensures writer { w.new ≡ wrote w.old line_end }
+    ensures same_reference { w.new.buf.ghost_name ≡ w.old.buf.ghost_name }
+{
+    let at = w.at;
+    w.at = put_newline(w.buf, at);
+}
+
 // Writes a word, and hands the writer back.
 pub fn word<'a, 'b>(mut w: Writer<'a>, s: &'b [u8]) -> Writer<'a>
     requires { HasRoom w.buf.now w.at s.now }
     ensures { result ≡ wrote w.entry s.now }
 {
-    w.at = put_word(w.buf, w.at, s);
+    add_word(&mut w, s);
     w
 }
 
@@ -43,7 +73,7 @@ pub fn number<'a>(mut w: Writer<'a>, n: u64) -> Writer<'a>
     requires { HasRoom w.buf.now w.at (digits n) }
     ensures { result ≡ wrote w.entry (digits n) }
 {
-    w.at = put_number(w.buf, w.at, n);
+    add_number(&mut w, n);
     w
 }
 
@@ -52,7 +82,7 @@ pub fn newline<'a>(mut w: Writer<'a>) -> Writer<'a>
     requires { HasRoom w.buf.now w.at line_end }
     ensures { result ≡ wrote w.entry line_end }
 {
-    w.at = put_newline(w.buf, w.at);
+    add_newline(&mut w);
     w
 }
 
@@ -61,7 +91,10 @@ pub fn put_item<'a, 'b>(buf: &'a mut [u8], at: usize, name: &'b [u8], n: u64) ->
     requires { HasRoom buf.old at (item name.now n) }
     ensures { Put buf.old at (item name.now n) buf.new result }
 {
-    fill(number(word(resume(buf, at), name), n))
+    let mut w = resume(buf, at);
+    add_word(&mut w, name);
+    add_number(&mut w, n);
+    fill(w)
 }
 
 // A line end alone.
@@ -69,7 +102,9 @@ pub fn end_line(buf: &mut [u8], at: usize) -> usize
     requires { HasRoom buf.old at line_end }
     ensures { Put buf.old at line_end buf.new result }
 {
-    fill(newline(resume(buf, at)))
+    let mut w = resume(buf, at);
+    add_newline(&mut w);
+    fill(w)
 }
 
 // A line of a word and a number, as `TCE 5`.
