@@ -174,7 +174,7 @@ module _ {g : Net} {T : ℕ → Type 0} {root goal : ℕ} where
       done v b = at (ℕ_discrete v (g.dst q))
         where
           at : Dec (v ≡ g.dst q) → (M v ≢ 0) × Avoids v (x ∷ froms g ts)
-          at (yes z) = rw z (m, off (g.dst q) s.simple.0)
+          at (yes z) = subst (λ (u : ℕ). (M u ≢ 0) × Avoids u (x ∷ froms g ts)) (sym z) (m, off (g.dst q) s.simple.0)
           at (no z) = let r = s.done v (omega (arith, put.same v z)) in (r.0, off v r.1.1)
 
       listed : (v : ℕ) → v < g.transitions → B v < g.places → T (B v) × (g.src (B v) ≡ v)

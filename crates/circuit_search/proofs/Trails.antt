@@ -39,11 +39,11 @@ module _ {g : Net} {T : ℕ → Type 0} {root goal : ℕ} {M N : ℕ → ℕ} wh
 
 module _ {g : Net} {T : ℕ → Type 0} {root goal : ℕ} {M N A : ℕ → ℕ} {x : ℕ} {ts : List ℕ} (s : Search g T root goal M N A x ts) where
   -- from a marked transition no way leads to the goal past the trail
-  lost : {v : ℕ} {ps : List ℕ} → M v ≢ 0 → Walk g v goal ps → All T ps → All (λ (u : ℕ). Avoids u (x ∷ froms g ts)) (froms g ps) → ⊥
-  lost n stop t a = n s.free
-  lost n (go p h w) t a =
+  lost : {v : ℕ} {ps : List ℕ} → Walk g v goal ps → M v ≢ 0 → All T ps → All (λ (u : ℕ). Avoids u (x ∷ froms g ts)) (froms g ps) → ⊥
+  lost stop n t a = n s.free
+  lost (go p h w) n t a =
       let e : g.places ≤ A (g.src p) = s.dead (g.src p) n a.0.1 a.0.0 in
-      lost (s.tried p h t.0 (omega arith)) w t.1 a.1
+      lost w (s.tried p h t.0 (omega arith)) t.1 a.1
 
   not_goal : x ≢ goal
   not_goal e = s.stands (ap M e ∙ s.free)
@@ -72,7 +72,7 @@ module _ {g : Net} {T : ℕ → Type 0} {root goal : ℕ} {M N A : ℕ → ℕ} 
         at (yes h) d =
             let t = all_right T ts (c ∷ us) r.tight in
             let k : c < A (g.src c) = rw (starts begins) (omega arith) in
-            absurd (lost (s.tried c (walk_places begins).0 t.0 k) (rest begins) t.1 past)
+            absurd (lost (rest begins) (s.tried c (walk_places begins).0 t.0 k) t.1 past)
         at (no h) (yes k) = inr (before_at ts [] us k)
         at (no h) (no k) =
             let e : c ≡ q = omega arith in
@@ -87,11 +87,11 @@ module _ {g : Net} {T : ℕ → Type 0} {root goal : ℕ} {M N A : ℕ → ℕ} 
 
   -- no way at all, where the trail is given up
   module _ (stuck : A x ≡ g.places) (first : x ≡ root) where
-    shut : {v : ℕ} {ps : List ℕ} → M v ≢ 0 → Walk g v goal ps → All T ps → ts ≡ [] → ⊥
-    shut n stop t e = n s.free
-    shut n (go p h w) t e =
+    shut : {v : ℕ} {ps : List ℕ} → Walk g v goal ps → M v ≢ 0 → All T ps → ts ≡ [] → ⊥
+    shut stop n t e = n s.free
+    shut (go p h w) n t e =
         let z : g.places ≤ A (g.src p) = at (ℕ_discrete (g.src p) x) in
-        shut (s.tried p h t.0 (omega arith)) w t.1 e
+        shut w (s.tried p h t.0 (omega arith)) t.1 e
       where
         at : Dec (g.src p ≡ x) → g.places ≤ A (g.src p)
         at (yes d) = omega (arith, ap A d, stuck)
@@ -102,7 +102,7 @@ module _ {g : Net} {T : ℕ → Type 0} {root goal : ℕ} {M N A : ℕ → ℕ} 
     empty {us = p ∷ us} w a = absurd (a.0 (first ∙ sym (starts w)))
 
     pub none_left : Cut g T root goal
-    none_left qs r = shut s.begun r.walk r.tight (empty (trail_walk s.trail) s.simple.0)
+    none_left qs r = shut r.walk s.begun r.tight (empty (trail_walk s.trail) s.simple.0)
 
   -- the way is found
   module _ (q : ℕ) (next : A x ≡ q) (inside : q < g.places) (tight : T q) (leaves : g.src q ≡ x) where

@@ -122,7 +122,7 @@ module _ {g : Net} {m time : ℕ → ℕ} {a b : ℕ} where
   unfolding sum
   reaches {u = u} r stop l = omega (arith, sweeps_up r u)
   reaches begun (go p h w) l = absurd (omega arith)
-  reaches (further x y r) (go p h w) l = omega (arith, reaches r w (omega arith), y p h)
+  reaches (further {k = k} x y r) (go p h w) l = omega (arith, reaches {k = k} r w (omega arith), y p h)
 
   -- A transition that rises after that many sweeps has no end to its chain.
   pub no_end : {C D E P : ℕ → ℕ} {k : ℕ} (v : ℕ) → Sweeps g m time a b k C D → Steady g m time a b C E P → g.transitions ≤ k → D v < E v → P (back g P g.transitions v) ≡ 0 → ⊥
