@@ -2,7 +2,7 @@
 use refusal::Refusal;
 
 // TBO is numerator / denominator in lowest terms; length is how many places its circuit has.
-#[derive(Drop)]
+#[derive(Clone, Copy)]
 pub struct Measures {
     pub numerator: u64,
     pub denominator: u64,
@@ -12,7 +12,7 @@ pub struct Measures {
     pub length: usize,
 }
 
-#[derive(Drop)]
+#[derive(Clone, Copy)]
 pub enum Bounds {
     Bounded(Measures),
     Refused(Refusal),

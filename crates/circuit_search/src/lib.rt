@@ -11,7 +11,7 @@ use circuit_tight::LOOSE;
 use net::{PLACES, TRANSITIONS};
 
 // What a move leads to: another transition, the goal, or nowhere.
-#[derive(Drop)]
+#[derive(Clone, Copy)]
 pub enum Move {
     At(usize),
     Reached,

@@ -16,7 +16,7 @@ const MOVES: usize = PLACES + TRANSITIONS;
 
 // How far the search is: the depth of its path, the height of the pile of transitions met and not yet placed,
 // the last number given to one, and the level of the next component.
-#[derive(Drop)]
+#[derive(Clone, Copy)]
 struct Stage {
     depth: usize,
     height: usize,

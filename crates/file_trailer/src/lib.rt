@@ -11,7 +11,7 @@ use little::word;
 pub const TRAILER: usize = 16;
 
 // The numbers of a file's trailer.
-#[derive(Drop)]
+#[derive(Clone, Copy)]
 pub struct Trailer {
     pub optable: usize,
     pub operations: usize,

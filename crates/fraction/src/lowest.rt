@@ -4,7 +4,7 @@ ghost use Rattle.fraction.specs.helpers.Terms.{InLowest};
 ghost use Rattle.fraction.specs.helpers.Divides.{Divisor};
 
 // A number of time units for a number of tokens.
-#[derive(Drop)]
+#[derive(Clone, Copy)]
 pub struct Ratio {
     pub num: u64,
     pub den: u64,

@@ -14,7 +14,7 @@ use net::{EDGES, NODES, OPERATIONS};
 use paths_finish::{finishes, node};
 
 // A path's sum is at most 40,000,000, and would be at most 120,000,000 with three times an operation: u32 has the room.
-#[derive(Drop)]
+#[derive(Clone, Copy)]
 pub struct Sums {
     pub tbio: u32,
     pub tt: u32,

@@ -11,7 +11,7 @@ use judge::judge;
 use refusal::{Refusal, Verdict};
 
 // A graph as its file has it; unused entries are 0.
-#[derive(Drop)]
+#[derive(Clone, Copy)]
 pub struct Graph {
     pub operations: usize,
     pub edges: usize,
@@ -23,7 +23,7 @@ pub struct Graph {
 }
 
 // The graph is all zero where the file is refused.
-#[derive(Drop)]
+#[derive(Clone, Copy)]
 pub struct Look {
     pub verdict: Verdict,
     pub graph: Graph,

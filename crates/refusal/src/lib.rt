@@ -6,21 +6,21 @@ ghost use Rattle.refusal.specs.declared.Verdict.TheVariants.{Refused};
 ghost use Rattle.refusal.specs.None.{no_refusal, refusal_of};
 
 // The number of the rule that is broken, and the place that it reports.
-#[derive(Drop)]
+#[derive(Clone, Copy)]
 pub struct Refusal {
     pub number: u8,
     pub place: u16,
 }
 
 // Whether all rules are kept; if not, the refusal.
-#[derive(Drop)]
+#[derive(Clone, Copy)]
 pub enum Verdict {
     Accepted,
     Refused(Refusal),
 }
 
 // What a search found: the lowest such place, or none.
-#[derive(Drop)]
+#[derive(Clone, Copy)]
 pub enum Found {
     At(usize),
     Nothing,

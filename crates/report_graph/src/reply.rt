@@ -4,7 +4,7 @@ ghost use Rattle.report_graph.specs.Length.{length_of};
 
 use refusal::Refusal;
 
-#[derive(Drop)]
+#[derive(Clone, Copy)]
 pub enum Report {
     Written { length: usize },
     Refused { refusal: Refusal, length: usize },

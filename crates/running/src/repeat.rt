@@ -10,14 +10,14 @@ use refusal::Refusal;
 use running_entry::{RunRecord, take};
 
 // How a run ended: every entry fired, or one was refused.
-#[derive(Drop)]
+#[derive(Clone, Copy)]
 pub enum End {
     Done,
     Refused(Refusal),
 }
 
 // How many entries fired, and how the run ended.
-#[derive(Drop)]
+#[derive(Clone, Copy)]
 pub struct Ran {
     pub fired: usize,
     pub end: End,

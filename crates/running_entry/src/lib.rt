@@ -8,7 +8,7 @@ use firing::step::{Answer, step_rows};
 use net::EDGES;
 
 // The marking's place count, the next list position and the number of firings so far.
-#[derive(Drop)]
+#[derive(Clone, Copy)]
 pub struct RunRecord {
     pub places: usize,
     pub next: usize,
@@ -16,7 +16,7 @@ pub struct RunRecord {
 }
 
 // The record after an entry, and the entry's answer.
-#[derive(Drop)]
+#[derive(Clone, Copy)]
 pub struct AfterEntry {
     pub rec: RunRecord,
     pub answer: Answer,

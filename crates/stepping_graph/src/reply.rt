@@ -7,7 +7,7 @@ use refusal::{Refusal, none};
 use running::repeat::End;
 
 // The start is written, or a refusal is given.
-#[derive(Drop)]
+#[derive(Clone, Copy)]
 pub enum Start {
     Started,
     Refused(Refusal),

@@ -10,7 +10,7 @@ use tbo_round::Ring;
 use tbo_sweep::NONE;
 
 // A certificate, or a closed walk that has more.
-#[derive(Drop)]
+#[derive(Clone, Copy)]
 pub enum Improvement {
     Certified,
     Better(Ring),

@@ -120,7 +120,7 @@ fn ready(force: bool, waits: u8) -> bool
 }
 
 // How many items are kept for the next pass, and how many are in order.
-#[derive(Drop)]
+#[derive(Clone, Copy)]
 pub struct Taken {
     pub kept: usize,
     pub put: usize,

@@ -41,7 +41,7 @@ pub fn follow(
 }
 
 // The time and the tokens of a closed walk.
-#[derive(Drop)]
+#[derive(Clone, Copy)]
 pub struct Ring {
     pub time: u64,
     pub tokens: u64,

@@ -1,7 +1,7 @@
 // What `wait` replies.
 use refusal::Refusal;
 
-#[derive(Drop)]
+#[derive(Clone, Copy)]
 pub enum Wait {
     Waits(u32),
     Refused(Refusal),
