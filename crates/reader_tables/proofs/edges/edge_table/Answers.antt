@@ -14,7 +14,7 @@ loop-e-preserved c =
     let i = c.loop-e.invariant.1 in (
       omega arith,
       record {
-        from = filled_more _ _ _ _ _ i.from (omega arith) c.edge_byte_lem.ensures;
+        from = filled_more _ _ _ _ _ i.from (omega arith) c.edge_byte.ensures;
         to = filled_more _ _ _ _ _ i.to (omega arith) c.edge_byte-in-loop-e.ensures;
         mark = filled_more _ _ _ _ _ i.mark (omega arith) c.edge_byte-in-loop-e-2.ensures;
         buffers = filled_more _ _ _ _ _ i.buffers (omega arith) c.edge_byte-in-loop-e-3.ensures;
