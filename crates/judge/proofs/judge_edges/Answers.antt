@@ -25,10 +25,8 @@ returns-in-At c =
 pub judge_links-requires : goal.judge_links-requires
 judge_links-requires c =
     let plan : Plan = rows c.args.n c.args.e [] c.args.from.now c.args.to.now c.args.mark.now c.args.buffers.now in
-    let kept : Kept (row6 (plan)) = found_none (row6 (plan)) c.first_wrong-wrong.result c.in_default.is c.first_wrong-wrong.ensures in (
-      allowed_wired [] c.args.from.now c.args.to.now c.args.mark.now c.args.buffers.now c.requires.operations c.requires.edges (kept),
-      allowed_marked [] c.args.from.now c.args.to.now c.args.mark.now c.args.buffers.now c.requires.operations c.requires.edges (kept),
-    )
+    let kept : Kept (row6 (plan)) = found_none (row6 (plan)) c.first_wrong-wrong.result c.in_default.is c.first_wrong-wrong.ensures in
+    record { wired = allowed_wired [] c.args.from.now c.args.to.now c.args.mark.now c.args.buffers.now c.requires.operations c.requires.edges (kept); marked = allowed_marked [] c.args.from.now c.args.to.now c.args.mark.now c.args.buffers.now c.requires.operations c.requires.edges (kept) }
 
 pub returns : goal.returns
 returns c =

@@ -24,13 +24,8 @@ pub clear-requires : goal.clear-requires
 clear-requires c = tt
 
 pub improve-f-requires : goal.improve-f-requires
-improve-f-requires c = (
-  c.requires.weighted,
-  (
-    (c.order.ensures, pair_of c.requires.weighted c.loop-ring.invariant),
-    record { low = λ v. omega (arith, c.clear.ensures.low v); long = c.clear.ensures.long },
-  ),
-)
+improve-f-requires c =
+    record { weighted = c.requires.weighted; ordered = (c.order.ensures, pair_of c.requires.weighted c.loop-ring.invariant); level = record { low = λ v. omega (arith, c.clear.ensures.low v); long = c.clear.ensures.long } }
 
 pub returns-in-Certified : goal.returns-in-Certified
 returns-in-Certified c =
