@@ -1,0 +1,29 @@
+-- The two arrays are the computational graph's (`lent_weighted`); each part as its own call tells it is put together by `bounds_of`.
+use Rattle.bounds_graph.proofs.Lending.{bounds_of, lent_live, lent_weighted}
+use mathlib.Core.Path.{refl}
+use Rattle.bounds_graph.proofs.measure.measure.Goals as goal
+
+pub largest-most-requires : goal.largest-most-requires
+largest-most-requires c =
+    record { weighted = lent_weighted c.requires.good c.requires.holds_start c.transition_times.ensures; live = lent_live c.requires.good c.requires.holds_start c.transition_times.ensures }
+
+pub choose-length-requires : goal.choose-length-requires
+choose-length-requires c =
+    record { weighted = lent_weighted c.requires.good c.requires.holds_start c.transition_times.ensures; largest_by = c.largest-most.ensures; n_in_bounds = c.requires.n_in_bounds }
+
+pub path_sums-sums-requires : goal.path_sums-sums-requires
+path_sums-sums-requires c = c.requires.good
+
+pub returns : goal.returns
+returns c =
+    bounds_of
+    c.requires.good
+    c.requires.holds_start
+    c.transition_times.ensures
+    c.largest-most.ensures
+    c.choose-length.ensures
+    c.path_sums-sums.ensures
+    c.reduce-tbo.ensures
+    refl
+    refl
+    refl
