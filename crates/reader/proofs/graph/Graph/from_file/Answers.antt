@@ -13,8 +13,6 @@ use Rattle.reader.proofs.graph.Graph.from_file.Goals as goal
 
 pub returns-in-Refused : goal.returns-in-Refused
 returns-in-Refused c =
-    let framed : Framed c.args.file.now = (sound_framed (judged_sound (subst (λ (v : Verdict). Judged (frame_rows c.args.file.now) v) c.in_default.is c.framed-verdict.ensures))) in
-    let judged : Judged (look_rows c.args.file.now) c.judge-verdict.result = judged_shown _ (framed) c.read-g.ensures c.judge-verdict.ensures in
     let f = c.args.file.now in
     let judged = subst (λ (v : Verdict). Judged (frame_rows f) v) c.in-Refused.is c.framed-verdict.ensures in
     c.refused.ensures f (given_first (frame_rows f) (graph_rows (plan_of f)) (judged_given judged))
