@@ -1,4 +1,4 @@
-/* The calls on a graph file, for C. Link target/staticlib/libamg.a, which `rt staticlib amg` proves and writes (x86-64 Linux).
+/* The calls on a graph file, for C. Link target/staticlib/libamg.a, which `include/archive` proves and writes (x86-64 Linux).
  *
  * Every call takes any bytes and any numbers: there is nothing to test before it. A refusal writes nothing, but for a run
  * stopped by 12 or 13, which keeps its firings, and a report refused by 1 to 9, which writes its one line. What is lent is

@@ -1,4 +1,4 @@
-// The one encoder of graph files for all of tests/: document 01's layout, and nothing about what is allowed in it.
+// The one encoder of graph files for all of tests/: README's layout, and nothing about what is allowed in it.
 
 // From, to and mark.
 pub type Edge = (usize, usize, u8);

@@ -1,20 +1,20 @@
 // The same code as crates/fraction, order, sweep, tbo, tight, search and circuit in plain Rust, on graphs from standard input: rounds, 1 for the circuit too, then the graphs.
 use std::io::Read;
 
-const EDGES: usize = 128;
-const OPERATIONS: usize = 40;
-const TRANSITIONS: usize = 122;
-const PLACES: usize = 376;
+pub const EDGES: usize = 128;
+pub const OPERATIONS: usize = 40;
+pub const TRANSITIONS: usize = 122;
+pub const PLACES: usize = 376;
 const ITEMS: usize = 168;
 const NONE: usize = TRANSITIONS;
 
-struct Graph {
-    n: usize,
-    e: usize,
-    times: [u32; OPERATIONS],
-    from: [u8; EDGES],
-    to: [u8; EDGES],
-    mark: [u8; EDGES],
+pub struct Graph {
+    pub n: usize,
+    pub e: usize,
+    pub times: [u32; OPERATIONS],
+    pub from: [u8; EDGES],
+    pub to: [u8; EDGES],
+    pub mark: [u8; EDGES],
 }
 
 fn write_of(a: u8) -> usize {
@@ -298,7 +298,8 @@ fn choose(g: &Graph, a: u64, b: u64, d: &[u64; TRANSITIONS], ring: &mut [u16]) -
     len
 }
 
-fn main() {
+// Calls it as often as standard input says on each of its graphs, and prints the sum of what it says.
+pub fn timed(mut solve: impl FnMut(&Graph, bool) -> u64) {
     let mut text = String::new();
     std::io::stdin().read_to_string(&mut text).unwrap();
     let mut words = text.split_ascii_whitespace().map(|w| w.parse::<u64>().unwrap());
@@ -316,17 +317,24 @@ fn main() {
             g.to[k] = words.next().unwrap() as u8;
             g.mark[k] = words.next().unwrap() as u8;
         }
-        let mut d = [0u64; TRANSITIONS];
-        let mut ring = [0u16; TRANSITIONS];
         for _ in 0..rounds {
-            let q = largest(std::hint::black_box(&g), &mut d);
-            let l = reduce(q.0, q.1);
-            sum += l.0 + 1000 * l.1;
-            if both == 1 {
-                let k = choose(&g, q.0, q.1, &d, &mut ring);
-                sum += 7 * k as u64 + 11 * ring[0] as u64 + 13 * ring[k - 1] as u64;
-            }
+            sum += solve(std::hint::black_box(&g), both == 1);
         }
     }
     println!("{}", sum);
+}
+
+fn main() {
+    let mut d = [0u64; TRANSITIONS];
+    let mut ring = [0u16; TRANSITIONS];
+    timed(|g, both| {
+        let q = largest(g, &mut d);
+        let l = reduce(q.0, q.1);
+        let mut sum = l.0 + 1000 * l.1;
+        if both {
+            let k = choose(g, q.0, q.1, &d, &mut ring);
+            sum += 7 * k as u64 + 11 * ring[0] as u64 + 13 * ring[k - 1] as u64;
+        }
+        sum
+    });
 }

@@ -14,13 +14,13 @@ pub fn spent() -> Duration {
 
 #[link(name = "amg", kind = "static")]
 extern "C" {
-    fn amg_look(file: *const u8, length: usize, counts: *mut [u32; 2], times: *mut [u32; 40], from: *mut [u8; 128], to: *mut [u8; 128], mark: *mut [u8; 128]) -> u64;
-    fn amg_start(file: *const u8, length: usize, marking: *mut u8, places: usize) -> u64;
-    fn amg_step(file: *const u8, length: usize, marking: *mut u8, places: usize, transition: u16) -> u64;
-    fn amg_run(file: *const u8, length: usize, marking: *mut u8, places: usize, list: *const u16, entries: usize) -> u64;
-    fn amg_wait(file: *const u8, length: usize, marking: *const u8, places: usize, transition: u16) -> u64;
-    fn amg_bounds(file: *const u8, length: usize, circuit: *mut u16, entries: usize, values: *mut [u64; 5]) -> u64;
-    fn amg_report(file: *const u8, length: usize, buffer: *mut u8, room: usize) -> u64;
+    pub fn amg_look(file: *const u8, length: usize, counts: *mut [u32; 2], times: *mut [u32; 40], from: *mut [u8; 128], to: *mut [u8; 128], mark: *mut [u8; 128]) -> u64;
+    pub fn amg_start(file: *const u8, length: usize, marking: *mut u8, places: usize) -> u64;
+    pub fn amg_step(file: *const u8, length: usize, marking: *mut u8, places: usize, transition: u16) -> u64;
+    pub fn amg_run(file: *const u8, length: usize, marking: *mut u8, places: usize, list: *const u16, entries: usize) -> u64;
+    pub fn amg_wait(file: *const u8, length: usize, marking: *const u8, places: usize, transition: u16) -> u64;
+    pub fn amg_bounds(file: *const u8, length: usize, circuit: *mut u16, entries: usize, values: *mut [u64; 5]) -> u64;
+    pub fn amg_report(file: *const u8, length: usize, buffer: *mut u8, room: usize) -> u64;
 }
 
 #[derive(Clone, Default)]

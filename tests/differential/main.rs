@@ -1,7 +1,6 @@
 // The differential test: random inputs go through the proved programs `calls_main` and `report_main`, through the program in C over the
 // archive, and through the model; every line must agree.
-// Arguments: how many rounds, the seed, the command that runs the program in C (`-` where there is none), the folder of the proved programs, and
-// the words of the command that runs one of them.
+// Arguments: how many rounds, the seed, the program in C (`-` where there is none), and the folder of the proved programs.
 mod calls;
 #[path = "../encode.rs"]
 #[allow(dead_code)]
@@ -38,15 +37,15 @@ fn random_call(d: &mut Dice, most: usize) -> Call {
     call(letter, &f, &list, &m)
 }
 
-// What a command prints for an input.
-fn through(command: &[String], input: &[u8]) -> String {
-    let mut child = Command::new(&command[0]).args(&command[1..]).stdin(Stdio::piped()).stdout(Stdio::piped()).spawn().expect("the program starts");
+// What a program prints for an input.
+fn through(program: &str, input: &[u8]) -> String {
+    let mut child = Command::new(program).stdin(Stdio::piped()).stdout(Stdio::piped()).spawn().expect("the program starts");
     let mut stdin = child.stdin.take().expect("standard input");
     let input = input.to_vec();
     let feed = std::thread::spawn(move || stdin.write_all(&input));
     let out = child.wait_with_output().expect("the program ends");
     feed.join().expect("the input was taken").ok();
-    assert!(out.status.success(), "{command:?} ended with {}", out.status);
+    assert!(out.status.success(), "{program} ended with {}", out.status);
     String::from_utf8(out.stdout).expect("text")
 }
 
@@ -61,8 +60,8 @@ fn agree(printed: &str, expected: &[&str], records: &[&[u8]], at: &str) {
 fn main() {
     let words: Vec<String> = std::env::args().skip(1).collect();
     let (rounds, seed): (usize, u64) = (words[0].parse().expect("rounds"), words[1].parse().expect("seed"));
-    let (in_c, folder, command) = (&words[2], &words[3], &words[4..]);
-    let program = |name: &str| [command, &[format!("{folder}/{name}")]].concat();
+    let (in_c, folder) = (&words[2], &words[3]);
+    let program = |name: &str| format!("{folder}/{name}");
     let with_c = in_c != "-";
     let mut d = Dice(seed.wrapping_mul(2654435769).max(1));
     let mut seen = [0usize; 15];
@@ -87,7 +86,7 @@ fn main() {
         if with_c {
             let lines: Vec<String> = batch.iter().map(|c| words::word(&c.reply)).collect();
             let expected: Vec<&str> = lines.iter().map(|l| &l[..]).collect();
-            agree(&through(&[in_c.clone(), "calls".to_string()], &records.concat()), &expected, &records, &format!("{at} in C"));
+            agree(&through(in_c, &records.concat()), &expected, &records, &format!("{at} in C"));
         }
         calls += batch.len();
         let f = if d.one_in(2) { inputs::damaged(&mut d, most) } else { inputs::accepted(&mut d, most).0 };

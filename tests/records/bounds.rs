@@ -12,15 +12,15 @@ const MANY: usize = 200_000;
 // What stands in a circuit buffer before the call: no place has this number.
 const BLANK: u16 = 500;
 
-// What the sources print of their graphs.
+// What the ATAMM papers print of their graphs.
 const PRINTED: [(&str, &[&str]); 4] = [
     ("S", &["TBO 1247/1", "TBIO 2371", "TCE 2872"]),
     ("S2", &["TBO 1671/1", "TBIO 2795"]),
-    ("003, figure 4.24", &["TBIO 2872", "TCE 2872"]),
-    ("003, figure 4.32", &["TBO 1000/1", "TBIO 1250", "TCE 5550"]),
+    ("surveillance, three control edges", &["TBIO 2872", "TCE 2872"]),
+    ("state equation, decomposed", &["TBO 1000/1", "TBIO 1250", "TCE 5550"]),
 ];
 
-// The model says what the sources print.
+// The model says what the papers print.
 pub fn as_printed() {
     for (name, lines) in PRINTED {
         let (times, edges) = named(name);

@@ -1,5 +1,5 @@
 // Writes the records that calls_main and plays_main read (their stdin) and the lines they must print (their stdout), P3 and its report for report_main, and
-// the largest file for bench/reader. Every line is as the model of tests/differential answers, which tells document 01 by other means than the proved code.
+// the largest file for bench/reader. Every line is as the model of tests/differential answers, which tells docs/MODEL.md by other means than the proved code.
 mod bounds;
 #[path = "../differential/calls.rs"]
 #[allow(dead_code)]
