@@ -4,7 +4,8 @@
 ghost use Rattle.pen_put.specs.Lines.{HasRoom, Put};
 ghost use Rattle.pen_main.specs.Page.{number_row, page};
 
-use libc::STDOUT_FILENO;
+use std::io;
+use std::io::Write;
 
 // Each number behind a blank: a loop over the pen.
 fn put_row(buf: &mut [u8], at: usize, ns: &[u64]) -> usize
@@ -32,9 +33,9 @@ fn put_page(buf: &mut [u8], at: usize, ns: &[u64]) -> usize
     pen::end_line(buf, d)
 }
 
-fn main() {
+fn main(rt: HostRuntime) -> io::Result<()> {
     let mut buf = [0u8; 128];
     let ns = [0u64, 9, 10, 18446744073709551615];
     let end = put_page(&mut buf, 0, &ns);
-    io::write_all(STDOUT_FILENO, &buf[..end]);
+    rt.stdout().write_all(&buf[..end])
 }

@@ -8,91 +8,110 @@ use casts::{byte_long, quad_long};
 use reader::graph::Graph;
 use records_print::{bytes, head, number, word};
 use refusal::{Verdict, none};
+use std::io;
+use std::io::Write;
 use stepping_graph::reply::{end_refusal, start_refusal, step_refusal};
 use waiting_graph::reply::Wait;
 
-fn times(xs: &[u32; Graph::OPERATIONS], n: usize)
+fn times<W: Write>(output: &mut W, xs: &[u32; Graph::OPERATIONS], n: usize) -> io::Result<()>
     requires { n ≤ most_operations }
 {
     let mut i = 0;
     while i < n {
-        number(quad_long(xs[i]));
+        number(output, quad_long(xs[i]))?;
         i += 1;
     }
+    Ok(())
 }
 
-fn rows<'a>(
+fn rows<'a, W: Write>(
+    output: &mut W,
     from: &'a [u8; Graph::EDGES],
     to: &'a [u8; Graph::EDGES],
     mark: &'a [u8; Graph::EDGES],
     n: usize,
-)
+) -> io::Result<()>
     requires { n ≤ most_edges }
 {
     let mut e = 0;
     while e < n {
-        number(byte_long(from[e]));
-        number(byte_long(to[e]));
-        number(byte_long(mark[e]));
+        number(output, byte_long(from[e]))?;
+        number(output, byte_long(to[e]))?;
+        number(output, byte_long(mark[e]))?;
         e += 1;
     }
+    Ok(())
 }
 
 // Nothing is lent to look but the file, so its memory is empty.
-fn look_graph(g: Graph)
+fn look_graph<W: Write>(output: &mut W, g: Graph) -> io::Result<()>
     requires { (g.operations ≤ most_operations) × (g.edges ≤ most_edges) }
 {
-    head(b"look", none());
-    number(g.operations as u64);
-    number(g.edges as u64);
-    times(&g.times, g.operations);
-    rows(&g.from, &g.to, &g.mark, g.edges);
-    word(b" memory\n");
+    head(output, b"look", none())?;
+    number(output, g.operations as u64)?;
+    number(output, g.edges as u64)?;
+    times(output, &g.times, g.operations)?;
+    rows(output, &g.from, &g.to, &g.mark, g.edges)?;
+    word(output, b" memory\n")
 }
 
-pub fn look_line(file: &[u8]) {
+pub fn look_line<W: Write>(output: &mut W, file: &[u8]) -> io::Result<()> {
     let looked = reader::look(file);
     let verdict = looked.verdict;
     if let Verdict::Refused(refusal) = verdict {
-        head(b"look", refusal);
-        word(b" memory\n");
-        return;
+        head(output, b"look", refusal)?;
+        return word(output, b" memory\n");
     }
     let g = looked.graph;
-    look_graph(g);
+    look_graph(output, g)
 }
 
-pub fn start_line(file: &[u8], marking: &mut [u8]) {
+pub fn start_line<W: Write>(output: &mut W, file: &[u8], marking: &mut [u8]) -> io::Result<()> {
     let reply = stepping::start(file, marking);
-    head(b"start", start_refusal(reply));
-    bytes(marking);
+    head(output, b"start", start_refusal(reply))?;
+    bytes(output, marking)
 }
 
-pub fn step_line(file: &[u8], marking: &mut [u8], transition: u16) {
+pub fn step_line<W: Write>(
+    output: &mut W,
+    file: &[u8],
+    marking: &mut [u8],
+    transition: u16,
+) -> io::Result<()> {
     let reply = stepping::step(file, marking, transition);
-    head(b"step", step_refusal(reply));
-    bytes(marking);
+    head(output, b"step", step_refusal(reply))?;
+    bytes(output, marking)
 }
 
-pub fn run_line(file: &[u8], marking: &mut [u8], list: &[u16]) {
+pub fn run_line<W: Write>(
+    output: &mut W,
+    file: &[u8],
+    marking: &mut [u8],
+    list: &[u16],
+) -> io::Result<()> {
     let reply = stepping::run(file, marking, list);
     let end = reply.end;
-    head(b"run", end_refusal(end));
-    number(reply.fired as u64);
-    bytes(marking);
+    head(output, b"run", end_refusal(end))?;
+    number(output, reply.fired as u64)?;
+    bytes(output, marking)
 }
 
-pub fn wait_line(file: &[u8], marking: &[u8], transition: u16) {
+pub fn wait_line<W: Write>(
+    output: &mut W,
+    file: &[u8],
+    marking: &[u8],
+    transition: u16,
+) -> io::Result<()> {
     let reply = waiting::wait(file, marking, transition);
     match reply {
         Wait::Waits(firings) => {
-            head(b"wait", none());
-            number(firings as u64);
+            head(output, b"wait", none())?;
+            number(output, firings as u64)?;
         }
         Wait::Refused(refusal) => {
-            head(b"wait", refusal);
-            number(0);
+            head(output, b"wait", refusal)?;
+            number(output, 0)?;
         }
     }
-    bytes(marking);
+    bytes(output, marking)
 }
