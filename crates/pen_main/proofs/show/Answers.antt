@@ -15,10 +15,9 @@ page_room : (buf : List ℕ) → length buf ≡ 128 → HasRoom buf 0 (page show
 unfolding page number_row pair_line item_line item line_end
 page_room buf long =
     record {
-  room = simp length-append
-      (omega (arith, long, digits_short 0 0 (omega arith), digits_short 0 9 (omega arith), digits_short 1 10 (omega arith), digits_short 19 18446744073709551615 (omega arith)));
-
-}
+      room = simp length-append
+          (omega (arith, long, digits_short 0 0 (omega arith), digits_short 0 9 (omega arith), digits_short 1 10 (omega arith), digits_short 19 18446744073709551615 (omega arith)));
+    }
 
 -- what is put at the beginning of a buffer is its first bytes
 put_read : (before text after : List ℕ) (len : ℕ) → HasRoom before 0 text → Put before 0 text after len → take len after ≡ text
