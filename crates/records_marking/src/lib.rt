@@ -1,8 +1,10 @@
 // The calls on a graph and its marking, each with its line: the name, the refusal's number and place, the values, and the lent memory afterwards.
 #![tactic(auto)]
 
-ghost use Rattle.std.specs.Prelude.{◌≤◌};
+ghost use Rattle.std.specs.Prelude.{◌≤◌, OnOk};
+ghost use Rattle.std.specs.Io.KnownBytes.{Appends};
 ghost use Rattle.net.specs.Limits.{most_edges, most_operations};
+ghost use Rattle.records_marking.specs.Lines.{LookLine, RunLine, StartLine, StepLine, WaitLine, graph_text, rows_text, times_text, wait_values_text};
 
 use casts::{byte_long, quad_long};
 use reader::graph::Graph;
@@ -15,6 +17,7 @@ use waiting_graph::reply::Wait;
 
 fn times<W: Write>(output: &mut W, xs: &[u32; Graph::OPERATIONS], n: usize) -> io::Result<()>
     requires { n ≤ most_operations }
+    ensures { OnOk result (Appends (W.contents output.old) (W.contents output.new) (times_text xs.now n)) }
 {
     let mut i = 0;
     while i < n {
@@ -32,6 +35,8 @@ fn rows<'a, W: Write>(
     n: usize,
 ) -> io::Result<()>
     requires { n ≤ most_edges }
+    ensures { OnOk result (Appends (W.contents output.old) (W.contents output.new)
+        (rows_text from.now to.now mark.now n)) }
 {
     let mut e = 0;
     while e < n {
@@ -46,6 +51,7 @@ fn rows<'a, W: Write>(
 // Nothing is lent to look but the file, so its memory is empty.
 fn look_graph<W: Write>(output: &mut W, g: Graph) -> io::Result<()>
     requires { (g.operations ≤ most_operations) × (g.edges ≤ most_edges) }
+    ensures { OnOk result (Appends (W.contents output.old) (W.contents output.new) (graph_text g)) }
 {
     head(output, b"look", none())?;
     number(output, g.operations as u64)?;
@@ -55,7 +61,9 @@ fn look_graph<W: Write>(output: &mut W, g: Graph) -> io::Result<()>
     word(output, b" memory\n")
 }
 
-pub fn look_line<W: Write>(output: &mut W, file: &[u8]) -> io::Result<()> {
+pub fn look_line<W: Write>(output: &mut W, file: &[u8]) -> io::Result<()>
+    ensures { OnOk result (LookLine file.now (W.contents output.old) (W.contents output.new)) }
+{
     let looked = reader::look(file);
     let verdict = looked.verdict;
     if let Verdict::Refused(refusal) = verdict {
@@ -66,7 +74,9 @@ pub fn look_line<W: Write>(output: &mut W, file: &[u8]) -> io::Result<()> {
     look_graph(output, g)
 }
 
-pub fn start_line<W: Write>(output: &mut W, file: &[u8], marking: &mut [u8]) -> io::Result<()> {
+pub fn start_line<W: Write>(output: &mut W, file: &[u8], marking: &mut [u8]) -> io::Result<()>
+    ensures { OnOk result (StartLine file.now marking.old marking.new (W.contents output.old) (W.contents output.new)) }
+{
     let reply = stepping::start(file, marking);
     head(output, b"start", start_refusal(reply))?;
     bytes(output, marking)
@@ -77,7 +87,9 @@ pub fn step_line<W: Write>(
     file: &[u8],
     marking: &mut [u8],
     transition: u16,
-) -> io::Result<()> {
+) -> io::Result<()>
+    ensures { OnOk result (StepLine file.now marking.old transition marking.new (W.contents output.old) (W.contents output.new)) }
+{
     let reply = stepping::step(file, marking, transition);
     head(output, b"step", step_refusal(reply))?;
     bytes(output, marking)
@@ -88,7 +100,9 @@ pub fn run_line<W: Write>(
     file: &[u8],
     marking: &mut [u8],
     list: &[u16],
-) -> io::Result<()> {
+) -> io::Result<()>
+    ensures { OnOk result (RunLine file.now marking.old list.now marking.new (W.contents output.old) (W.contents output.new)) }
+{
     let reply = stepping::run(file, marking, list);
     let end = reply.end;
     head(output, b"run", end_refusal(end))?;
@@ -96,22 +110,31 @@ pub fn run_line<W: Write>(
     bytes(output, marking)
 }
 
+// A wait, or the refusal and 0.
+fn wait_values<W: Write>(output: &mut W, reply: Wait) -> io::Result<()>
+    ensures { OnOk result (Appends (W.contents output.old) (W.contents output.new) (wait_values_text reply)) }
+{
+    match reply {
+        Wait::Waits(firings) => {
+            head(output, b"wait", none())?;
+            number(output, firings as u64)
+        }
+        Wait::Refused(refusal) => {
+            head(output, b"wait", refusal)?;
+            number(output, 0)
+        }
+    }
+}
+
 pub fn wait_line<W: Write>(
     output: &mut W,
     file: &[u8],
     marking: &[u8],
     transition: u16,
-) -> io::Result<()> {
+) -> io::Result<()>
+    ensures { OnOk result (WaitLine file.now marking.now transition (W.contents output.old) (W.contents output.new)) }
+{
     let reply = waiting::wait(file, marking, transition);
-    match reply {
-        Wait::Waits(firings) => {
-            head(output, b"wait", none())?;
-            number(output, firings as u64)?;
-        }
-        Wait::Refused(refusal) => {
-            head(output, b"wait", refusal)?;
-            number(output, 0)?;
-        }
-    }
+    wait_values(output, reply)?;
     bytes(output, marking)
 }
