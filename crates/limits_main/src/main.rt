@@ -2,23 +2,33 @@
 #![tactic(auto)]
 
 use reader::graph::Graph;
+use std::io;
+use std::io::Write;
 
-fn line(name: &[u8], lowest: u64, highest: u64) {
-    io::write_all(1, name);
-    io::write_all(1, b" ");
-    io::print_decimal(1, lowest);
-    io::write_all(1, b" ");
-    io::print_decimal(1, highest);
-    io::write_all(1, b"\n");
+fn line<W: Write>(out: &mut W, name: &[u8], lowest: u64, highest: u64) -> io::Result<()> {
+    out.write_all(name)?;
+    writeln!(out, " {lowest} {highest}")
 }
 
-fn main() {
+fn main(rt: HostRuntime) -> io::Result<()> {
+    let out = &mut rt.stdout();
     line(
+        out,
         b"operations",
         Graph::FEWEST_OPERATIONS as u64,
         Graph::OPERATIONS as u64,
-    );
-    line(b"edges", Graph::FEWEST_EDGES as u64, Graph::EDGES as u64);
-    line(b"time", Graph::SHORTEST_TIME as u64, Graph::TIME as u64);
-    line(b"length", Graph::SHORTEST as u64, Graph::LENGTH as u64);
+    )?;
+    line(
+        out,
+        b"edges",
+        Graph::FEWEST_EDGES as u64,
+        Graph::EDGES as u64,
+    )?;
+    line(
+        out,
+        b"time",
+        Graph::SHORTEST_TIME as u64,
+        Graph::TIME as u64,
+    )?;
+    line(out, b"length", Graph::SHORTEST as u64, Graph::LENGTH as u64)
 }

@@ -11,6 +11,8 @@ use distances::distances;
 use net::{EDGES, PLACES, TRANSITIONS};
 use net_start::start::start_marking;
 use refusal::Found;
+use std::io;
+use std::io::Write;
 
 // x, held between least and most.
 fn held(x: u8, least: u8, most: u8) -> u8
@@ -41,87 +43,111 @@ fn column(edges: &[u8; 15], e: usize, c: usize, least: u8, most: u8) -> [u8; EDG
 }
 
 // The first k entries, in one line.
-fn line(d: &[u16; TRANSITIONS], k: usize)
+fn line<W: Write>(out: &mut W, d: &[u16; TRANSITIONS], k: usize) -> io::Result<()>
     requires { k ≤ 122 }
 {
     let mut u = 0;
     while u < k {
-        io::write_all(1, b" ");
-        io::print_decimal(1, word_long(d[u]));
+        write!(out, " {}", word_long(d[u]))?;
         u += 1;
     }
-    io::write_all(1, b"\n");
+    out.write_all(b"\n")
 }
 
 // The distances from transition t.
-fn show_from(n: usize, e: usize, from: &[u8; EDGES], to: &[u8; EDGES], marking: &[u8], t: usize)
+fn show_from<W: Write>(
+    out: &mut W,
+    n: usize,
+    e: usize,
+    from: &[u8; EDGES],
+    to: &[u8; EDGES],
+    marking: &[u8],
+    t: usize,
+) -> io::Result<()>
     requires lent { Lent n e from.now to.now marking.now }
     requires t_bound { t < 3 * n + 2 }
 {
     let mut d = [0; TRANSITIONS];
     distances(n, e, from, to, marking, t, &mut d);
-    io::write_all(1, b"from ");
-    io::print_decimal(1, t as u64);
-    line(&d, 3 * n + 2);
+    write!(out, "from {t}")?;
+    line(out, &d, 3 * n + 2)
 }
 
 // The lowest transition on a token-free circuit.
-fn show_dead(n: usize, e: usize, from: &[u8; EDGES], to: &[u8; EDGES], marking: &[u8])
+fn show_dead<W: Write>(
+    out: &mut W,
+    n: usize,
+    e: usize,
+    from: &[u8; EDGES],
+    to: &[u8; EDGES],
+    marking: &[u8],
+) -> io::Result<()>
     requires { Lent n e from.now to.now marking.now }
 {
-    io::write_all(1, b"dead ");
     if let Found::At(t) = first_dead(n, e, from, to, marking) {
-        io::print_decimal(1, t as u64);
-        io::write_all(1, b"\n");
-        return;
+        return writeln!(out, "dead {t}");
     }
-    io::write_all(1, b"none\n");
+    out.write_all(b"dead none\n")
 }
 
 // The distances from every transition.
-fn show_all(n: usize, e: usize, from: &[u8; EDGES], to: &[u8; EDGES], marking: &[u8])
+fn show_all<W: Write>(
+    out: &mut W,
+    n: usize,
+    e: usize,
+    from: &[u8; EDGES],
+    to: &[u8; EDGES],
+    marking: &[u8],
+) -> io::Result<()>
     requires { Lent n e from.now to.now marking.now }
 {
     let mut t = 0;
     while t < 3 * n + 2 {
-        show_from(n, e, from, to, marking, t);
+        show_from(out, n, e, from, to, marking, t)?;
         t += 1;
     }
+    Ok(())
 }
 
 // Both.
-fn show_rows(n: usize, e: usize, from: &[u8; EDGES], to: &[u8; EDGES], marking: &[u8])
+fn show_rows<W: Write>(
+    out: &mut W,
+    n: usize,
+    e: usize,
+    from: &[u8; EDGES],
+    to: &[u8; EDGES],
+    marking: &[u8],
+) -> io::Result<()>
     requires { Lent n e from.now to.now marking.now }
 {
-    show_dead(n, e, from, to, marking);
-    show_all(n, e, from, to, marking);
+    show_dead(out, n, e, from, to, marking)?;
+    show_all(out, n, e, from, to, marking)
 }
 
 // The graph's name.
-fn show_name(number: u64) {
-    io::write_all(1, b"P");
-    io::print_decimal(1, number);
-    io::write_all(1, b"\n");
+fn show_name<W: Write>(out: &mut W, number: u64) -> io::Result<()> {
+    writeln!(out, "P{number}")
 }
 
 // One graph at the start: its number, its operations, and its edges as from, to and mark.
-fn show(number: u64, n: u8, e: usize, edges: &[u8; 15])
+fn show<W: Write>(out: &mut W, number: u64, n: u8, e: usize, edges: &[u8; 15]) -> io::Result<()>
     requires { (1 ≤ n) × (n ≤ 40) × (e ≤ 5) }
 {
-    show_name(number);
+    show_name(out, number)?;
     let from = column(edges, e, 0, 0, n);
     let to = column(edges, e, 1, 1, n + 1);
     let mark = column(edges, e, 2, 0, 1);
     let mut marking = [0u8; PLACES];
     start_marking(n as usize, e, &mark, &mut marking);
-    show_rows(n as usize, e, &from, &to, &marking);
+    show_rows(out, n as usize, e, &from, &to, &marking)
 }
 
-fn main() {
-    show(1, 1, 2, &[0, 1, 0, 1, 2, 0, 0, 0, 0, 0, 0, 0, 0, 0, 0]);
-    show(2, 2, 4, &[0, 1, 0, 1, 2, 0, 2, 1, 1, 2, 3, 0, 0, 0, 0]);
-    show(3, 3, 5, &[0, 1, 0, 1, 2, 0, 2, 3, 1, 3, 1, 1, 3, 4, 0]);
-    show(4, 2, 4, &[0, 1, 0, 1, 2, 0, 1, 2, 1, 2, 3, 0, 0, 0, 0]);
-    show(5, 1, 3, &[0, 1, 0, 1, 1, 1, 1, 2, 0, 0, 0, 0, 0, 0, 0]);
-    show(6, 1, 3, &[0, 1, 0, 1, 1, 0, 1, 2, 0, 0, 0, 0, 0, 0, 0]);
+fn main(rt: HostRuntime) -> io::Result<()> {
+    let out = &mut rt.stdout();
+    show(out, 1, 1, 2, &[0, 1, 0, 1, 2, 0, 0, 0, 0, 0, 0, 0, 0, 0, 0])?;
+    show(out, 2, 2, 4, &[0, 1, 0, 1, 2, 0, 2, 1, 1, 2, 3, 0, 0, 0, 0])?;
+    show(out, 3, 3, 5, &[0, 1, 0, 1, 2, 0, 2, 3, 1, 3, 1, 1, 3, 4, 0])?;
+    show(out, 4, 2, 4, &[0, 1, 0, 1, 2, 0, 1, 2, 1, 2, 3, 0, 0, 0, 0])?;
+    show(out, 5, 1, 3, &[0, 1, 0, 1, 1, 1, 1, 2, 0, 0, 0, 0, 0, 0, 0])?;
+    show(out, 6, 1, 3, &[0, 1, 0, 1, 1, 0, 1, 2, 0, 0, 0, 0, 0, 0, 0])
 }

@@ -1,10 +1,13 @@
 // Shows the pen at work: lines from the smallest number to the largest, put together as a report's are.
 #![tactic(auto)]
 
+ghost use Rattle.std.specs.Prelude.{OnOk};
+ghost use Rattle.std.specs.Io.KnownBytes.{Appends};
 ghost use Rattle.pen_put.specs.Lines.{HasRoom, Put};
-ghost use Rattle.pen_main.specs.Page.{number_row, page};
+ghost use Rattle.pen_main.specs.Page.{number_row, page, shown};
 
-use libc::STDOUT_FILENO;
+use std::io;
+use std::io::Write;
 
 // Each number behind a blank: a loop over the pen.
 fn put_row(buf: &mut [u8], at: usize, ns: &[u64]) -> usize
@@ -32,9 +35,16 @@ fn put_page(buf: &mut [u8], at: usize, ns: &[u64]) -> usize
     pen::end_line(buf, d)
 }
 
-fn main() {
+// Writes the page in one piece.
+fn show<W: Write>(out: &mut W) -> io::Result<()>
+    ensures { OnOk result (Appends (W.contents out.old) (W.contents out.new) (page shown)) }
+{
     let mut buf = [0u8; 128];
     let ns = [0u64, 9, 10, 18446744073709551615];
     let end = put_page(&mut buf, 0, &ns);
-    io::write_all(STDOUT_FILENO, &buf[..end]);
+    out.write_all(&buf[..end])
+}
+
+fn main(rt: HostRuntime) -> io::Result<()> {
+    show(&mut rt.stdout())
 }

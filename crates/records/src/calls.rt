@@ -6,29 +6,31 @@ use records_marking::{look_line, run_line, start_line, step_line, wait_line};
 use records_print::{bytes, entries, head, number, word};
 use refusal::none;
 use report_graph::reply::Report;
+use std::io;
+use std::io::Write;
 
-fn bounds_values(reply: Bounds) {
+fn bounds_values<W: Write>(output: &mut W, reply: Bounds) -> io::Result<()> {
     match reply {
         Bounds::Bounded(found) => {
-            head(b"bounds", none());
-            number(found.numerator);
-            number(found.denominator);
-            number(found.tbio as u64);
-            number(found.tt as u64);
-            number(found.tce as u64);
-            number(found.length as u64);
+            head(output, b"bounds", none())?;
+            number(output, found.numerator)?;
+            number(output, found.denominator)?;
+            number(output, found.tbio as u64)?;
+            number(output, found.tt as u64)?;
+            number(output, found.tce as u64)?;
+            number(output, found.length as u64)
         }
         Bounds::Refused(refusal) => {
-            head(b"bounds", refusal);
-            word(b" 0 0 0 0 0 0");
+            head(output, b"bounds", refusal)?;
+            word(output, b" 0 0 0 0 0 0")
         }
     }
 }
 
-fn bounds_line(file: &[u8], list: &mut [u16]) {
+fn bounds_line<W: Write>(output: &mut W, file: &[u8], list: &mut [u16]) -> io::Result<()> {
     let reply = bounds::bounds(file, list);
-    bounds_values(reply);
-    entries(list);
+    bounds_values(output, reply)?;
+    entries(output, list)
 }
 
 // How long the report's buffer is.
@@ -44,29 +46,29 @@ fn room(asked: usize) -> usize
     asked
 }
 
-fn report_values(reply: Report) {
+fn report_values<W: Write>(output: &mut W, reply: Report) -> io::Result<()> {
     match reply {
         Report::Written { length } => {
-            head(b"report", none());
-            number(length as u64);
+            head(output, b"report", none())?;
+            number(output, length as u64)
         }
         Report::Refused { refusal, length } => {
-            head(b"report", refusal);
-            number(length as u64);
+            head(output, b"report", refusal)?;
+            number(output, length as u64)
         }
     }
 }
 
-fn report_in(file: &[u8], buffer: &mut [u8]) {
+fn report_in<W: Write>(output: &mut W, file: &[u8], buffer: &mut [u8]) -> io::Result<()> {
     let reply = report::report(file, buffer);
-    report_values(reply);
-    bytes(buffer);
+    report_values(output, reply)?;
+    bytes(output, buffer)
 }
 
-fn report_line(file: &[u8], asked: usize) {
+fn report_line<W: Write>(output: &mut W, file: &[u8], asked: usize) -> io::Result<()> {
     let mut buffer = [170u8; report::ROOM];
     let n = room(asked);
-    report_in(file, &mut buffer[..n]);
+    report_in(output, file, &mut buffer[..n])
 }
 
 // The transition asked for: the list's first entry, or one that no graph has.
@@ -78,16 +80,22 @@ fn first(list: &[u16]) -> u16 {
 }
 
 // The call that the letter names; false where it names none.
-pub fn call(letter: u8, file: &[u8], list: &mut [u16], marking: &mut [u8]) -> bool {
+pub fn call<W: Write>(
+    output: &mut W,
+    letter: u8,
+    file: &[u8],
+    list: &mut [u16],
+    marking: &mut [u8],
+) -> io::Result<bool> {
     match letter {
-        b'L' => look_line(file),
-        b'S' => start_line(file, marking),
-        b'T' => step_line(file, marking, first(list)),
-        b'R' => run_line(file, marking, list),
-        b'W' => wait_line(file, marking, first(list)),
-        b'B' => bounds_line(file, list),
-        b'P' => report_line(file, marking.len()),
-        _ => return false,
+        b'L' => look_line(output, file)?,
+        b'S' => start_line(output, file, marking)?,
+        b'T' => step_line(output, file, marking, first(list))?,
+        b'R' => run_line(output, file, marking, list)?,
+        b'W' => wait_line(output, file, marking, first(list))?,
+        b'B' => bounds_line(output, file, list)?,
+        b'P' => report_line(output, file, marking.len())?,
+        _ => return Ok(false),
     }
-    true
+    Ok(true)
 }

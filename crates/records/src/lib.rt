@@ -3,10 +3,13 @@
 
 mod calls;
 
-ghost use Rattle.std.specs.Prelude.{◌≡◌, ◌<◌, ◌≤◌, length};
+ghost use Rattle.std.specs.Prelude.{◌≡◌, ◌<◌, ◌≤◌, length, IfOk};
 ghost use Rattle.records.specs.Parts.{Next, Twice};
 
+use input::fill;
 use records_print::word;
+use std::io;
+use std::io::{Read, Write};
 
 // The input goes no further.
 const INPUT: usize = 60000;
@@ -41,27 +44,33 @@ fn count(s: &[u8], at: usize) -> usize
 }
 
 // A record that is cut short, or whose letter names no call, is the last.
-fn cut(s: &[u8]) -> usize
-    ensures { result ≡ length s.now }
+fn cut<W: Write>(output: &mut W, s: &[u8]) -> io::Result<usize>
+    ensures { IfOk result (λ end. end ≡ length s.now) }
 {
-    word(b"cut\n");
-    s.len()
+    word(output, b"cut\n")?;
+    Ok(s.len())
 }
 
 // One call, whose list comes as bytes; false where the letter names none.
-fn with_list(letter: u8, file: &[u8], list: &[u8], marking: &mut [u8]) -> bool
+fn with_list<W: Write>(
+    output: &mut W,
+    letter: u8,
+    file: &[u8],
+    list: &[u8],
+    marking: &mut [u8],
+) -> io::Result<bool>
     requires { length list.now ≤ 60000 }
 {
     let mut transitions = entries(list);
     let n = list.len() / 2;
-    calls::call(letter, file, &mut transitions[..n], marking)
+    calls::call(output, letter, file, &mut transitions[..n], marking)
 }
 
 // One record, and where the next begins. Its marking is lent from the second copy of the input, so that a call can write it.
-fn record(s: &[u8], copy: &mut [u8], at: usize) -> usize
+fn record<W: Write>(output: &mut W, s: &[u8], copy: &mut [u8], at: usize) -> io::Result<usize>
     requires twice { Twice s.now copy.old }
     requires at_in_bounds { at < length s.now }
-    ensures { Next s.now at result }
+    ensures { IfOk result (λ next. Next s.now at next) }
 {
     let file = at + 3;
     let file_end = file + count(s, at + 1);
@@ -70,33 +79,35 @@ fn record(s: &[u8], copy: &mut [u8], at: usize) -> usize
     let marking = list_end + 2;
     let end = marking + count(s, list_end);
     if s.len() < end {
-        return cut(s);
+        return cut(output, s);
     }
     if with_list(
+        output,
         s[at],
         &s[file..file_end],
         &s[list..list_end],
         &mut copy[marking..end],
-    ) {
-        return end;
+    )? {
+        return Ok(end);
     }
-    cut(s)
+    cut(output, s)
 }
 
 // Every record.
-fn each(s: &[u8], copy: &mut [u8])
+fn each<W: Write>(output: &mut W, s: &[u8], copy: &mut [u8]) -> io::Result<()>
     requires { Twice s.now copy.old }
 {
     let mut at = 0;
     while at < s.len() {
-        at = record(s, copy, at);
+        at = record(output, s, copy, at)?;
     }
+    Ok(())
 }
 
-// Every record of standard input.
-pub fn play() {
-    let mut input = [0u8; INPUT];
-    let n = io::read_full(0, &mut input);
-    let mut copy = input;
-    each(&input[..n], &mut copy[..n]);
+// Every record of the input.
+pub fn play<R: Read, W: Write>(input: &mut R, output: &mut W) -> io::Result<()> {
+    let mut records = [0u8; INPUT];
+    let n = fill(input, &mut records)?;
+    let mut copy = records;
+    each(output, &records[..n], &mut copy[..n])
 }

@@ -1,98 +1,140 @@
 // The calls on a graph and its marking, each with its line: the name, the refusal's number and place, the values, and the lent memory afterwards.
 #![tactic(auto)]
 
-ghost use Rattle.std.specs.Prelude.{◌≤◌};
+ghost use Rattle.std.specs.Prelude.{◌≤◌, OnOk};
+ghost use Rattle.std.specs.Io.KnownBytes.{Appends};
 ghost use Rattle.net.specs.Limits.{most_edges, most_operations};
+ghost use Rattle.records_marking.specs.Lines.{LookLine, RunLine, StartLine, StepLine, WaitLine, graph_text, rows_text, times_text, wait_values_text};
 
 use casts::{byte_long, quad_long};
 use reader::graph::Graph;
 use records_print::{bytes, head, number, word};
 use refusal::{Verdict, none};
+use std::io;
+use std::io::Write;
 use stepping_graph::reply::{end_refusal, start_refusal, step_refusal};
 use waiting_graph::reply::Wait;
 
-fn times(xs: &[u32; Graph::OPERATIONS], n: usize)
+fn times<W: Write>(output: &mut W, xs: &[u32; Graph::OPERATIONS], n: usize) -> io::Result<()>
     requires { n ≤ most_operations }
+    ensures { OnOk result (Appends (W.contents output.old) (W.contents output.new) (times_text xs.now n)) }
 {
     let mut i = 0;
     while i < n {
-        number(quad_long(xs[i]));
+        number(output, quad_long(xs[i]))?;
         i += 1;
     }
+    Ok(())
 }
 
-fn rows<'a>(
+fn rows<'a, W: Write>(
+    output: &mut W,
     from: &'a [u8; Graph::EDGES],
     to: &'a [u8; Graph::EDGES],
     mark: &'a [u8; Graph::EDGES],
     n: usize,
-)
+) -> io::Result<()>
     requires { n ≤ most_edges }
+    ensures { OnOk result (Appends (W.contents output.old) (W.contents output.new)
+        (rows_text from.now to.now mark.now n)) }
 {
     let mut e = 0;
     while e < n {
-        number(byte_long(from[e]));
-        number(byte_long(to[e]));
-        number(byte_long(mark[e]));
+        number(output, byte_long(from[e]))?;
+        number(output, byte_long(to[e]))?;
+        number(output, byte_long(mark[e]))?;
         e += 1;
     }
+    Ok(())
 }
 
 // Nothing is lent to look but the file, so its memory is empty.
-fn look_graph(g: Graph)
+fn look_graph<W: Write>(output: &mut W, g: Graph) -> io::Result<()>
     requires { (g.operations ≤ most_operations) × (g.edges ≤ most_edges) }
+    ensures { OnOk result (Appends (W.contents output.old) (W.contents output.new) (graph_text g)) }
 {
-    head(b"look", none());
-    number(g.operations as u64);
-    number(g.edges as u64);
-    times(&g.times, g.operations);
-    rows(&g.from, &g.to, &g.mark, g.edges);
-    word(b" memory\n");
+    head(output, b"look", none())?;
+    number(output, g.operations as u64)?;
+    number(output, g.edges as u64)?;
+    times(output, &g.times, g.operations)?;
+    rows(output, &g.from, &g.to, &g.mark, g.edges)?;
+    word(output, b" memory\n")
 }
 
-pub fn look_line(file: &[u8]) {
+pub fn look_line<W: Write>(output: &mut W, file: &[u8]) -> io::Result<()>
+    ensures { OnOk result (LookLine file.now (W.contents output.old) (W.contents output.new)) }
+{
     let looked = reader::look(file);
     let verdict = looked.verdict;
     if let Verdict::Refused(refusal) = verdict {
-        head(b"look", refusal);
-        word(b" memory\n");
-        return;
+        head(output, b"look", refusal)?;
+        return word(output, b" memory\n");
     }
     let g = looked.graph;
-    look_graph(g);
+    look_graph(output, g)
 }
 
-pub fn start_line(file: &[u8], marking: &mut [u8]) {
+pub fn start_line<W: Write>(output: &mut W, file: &[u8], marking: &mut [u8]) -> io::Result<()>
+    ensures { OnOk result (StartLine file.now marking.old marking.new (W.contents output.old) (W.contents output.new)) }
+{
     let reply = stepping::start(file, marking);
-    head(b"start", start_refusal(reply));
-    bytes(marking);
+    head(output, b"start", start_refusal(reply))?;
+    bytes(output, marking)
 }
 
-pub fn step_line(file: &[u8], marking: &mut [u8], transition: u16) {
+pub fn step_line<W: Write>(
+    output: &mut W,
+    file: &[u8],
+    marking: &mut [u8],
+    transition: u16,
+) -> io::Result<()>
+    ensures { OnOk result (StepLine file.now marking.old transition marking.new (W.contents output.old) (W.contents output.new)) }
+{
     let reply = stepping::step(file, marking, transition);
-    head(b"step", step_refusal(reply));
-    bytes(marking);
+    head(output, b"step", step_refusal(reply))?;
+    bytes(output, marking)
 }
 
-pub fn run_line(file: &[u8], marking: &mut [u8], list: &[u16]) {
+pub fn run_line<W: Write>(
+    output: &mut W,
+    file: &[u8],
+    marking: &mut [u8],
+    list: &[u16],
+) -> io::Result<()>
+    ensures { OnOk result (RunLine file.now marking.old list.now marking.new (W.contents output.old) (W.contents output.new)) }
+{
     let reply = stepping::run(file, marking, list);
     let end = reply.end;
-    head(b"run", end_refusal(end));
-    number(reply.fired as u64);
-    bytes(marking);
+    head(output, b"run", end_refusal(end))?;
+    number(output, reply.fired as u64)?;
+    bytes(output, marking)
 }
 
-pub fn wait_line(file: &[u8], marking: &[u8], transition: u16) {
-    let reply = waiting::wait(file, marking, transition);
+// A wait, or the refusal and 0.
+fn wait_values<W: Write>(output: &mut W, reply: Wait) -> io::Result<()>
+    ensures { OnOk result (Appends (W.contents output.old) (W.contents output.new) (wait_values_text reply)) }
+{
     match reply {
         Wait::Waits(firings) => {
-            head(b"wait", none());
-            number(firings as u64);
+            head(output, b"wait", none())?;
+            number(output, firings as u64)
         }
         Wait::Refused(refusal) => {
-            head(b"wait", refusal);
-            number(0);
+            head(output, b"wait", refusal)?;
+            number(output, 0)
         }
     }
-    bytes(marking);
+}
+
+pub fn wait_line<W: Write>(
+    output: &mut W,
+    file: &[u8],
+    marking: &[u8],
+    transition: u16,
+) -> io::Result<()>
+    ensures { OnOk result (WaitLine file.now marking.now transition (W.contents output.old) (W.contents output.new)) }
+{
+    let reply = waiting::wait(file, marking, transition);
+    wait_values(output, reply)?;
+    bytes(output, marking)
 }

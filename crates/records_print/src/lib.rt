@@ -1,10 +1,15 @@
 // What a line is made of: words, numbers behind a blank, and the lent memory, which ends it.
 #![tactic(auto)]
 
-ghost use Rattle.records_print.specs.Page.{Page, Roomy};
+ghost use Rattle.std.specs.Prelude.{◌++◌, take, IfOk, OnOk};
+ghost use Rattle.std.specs.Io.KnownBytes.{Appends};
+ghost use Rattle.records_print.specs.Page.{Gathered, Page, Roomy};
+ghost use Rattle.records_print.specs.Text.{head_text, memory_text, number_text};
 
 use casts::byte_word;
 use refusal::Refusal;
+use std::io;
+use std::io::Write;
 
 // Numbers of the memory are gathered here, so that a long one takes few writes.
 const PAGE: usize = 4096;
@@ -12,71 +17,88 @@ const PAGE: usize = 4096;
 // More bytes than a number takes with its blank.
 const MOST: usize = 32;
 
-pub fn word(w: &[u8]) {
-    io::write_all(1, w);
+pub fn word<W: Write>(output: &mut W, w: &[u8]) -> io::Result<()>
+    ensures { OnOk result (Appends (W.contents output.old) (W.contents output.new) w.now) }
+{
+    output.write_all(w)
 }
 
-pub fn number(x: u64) {
-    word(b" ");
-    io::print_decimal(1, x);
+// In one write.
+pub fn number<W: Write>(output: &mut W, x: u64) -> io::Result<()>
+    ensures { OnOk result (Appends (W.contents output.old) (W.contents output.new) (number_text x)) }
+{
+    let mut text = [0u8; MOST];
+    let end = pen::put_item(&mut text, 0, b" ", x);
+    word(output, &text[..end])
 }
 
 // A call's name, and its refusal's number and place, 0 0 where it is done.
-pub fn head(name: &[u8], refusal: Refusal) {
-    word(name);
-    number(refusal.number as u64);
-    number(refusal.place as u64);
+pub fn head<W: Write>(output: &mut W, name: &[u8], refusal: Refusal) -> io::Result<()>
+    ensures { OnOk result (Appends (W.contents output.old) (W.contents output.new) (head_text name.now refusal)) }
+{
+    word(output, name)?;
+    number(output, refusal.number as u64)?;
+    number(output, refusal.place as u64)
 }
 
-fn out(page: &[u8], at: usize)
+fn out<W: Write>(output: &mut W, page: &[u8], at: usize) -> io::Result<()>
     requires { Page page.now at }
+    ensures { OnOk result (Appends (W.contents output.old) (W.contents output.new) (take at page.now)) }
 {
-    word(&page[..at]);
+    word(output, &page[..at])
 }
 
 // A page with no room for a number is written out and begun again.
-fn turn(page: &[u8], at: usize) -> usize
+fn turn<W: Write>(output: &mut W, page: &[u8], at: usize) -> io::Result<usize>
     requires { Page page.now at }
-    ensures { Roomy result }
+    ensures room { IfOk result (λ next. Roomy next) }
+    ensures text { IfOk result (λ next.
+        Gathered (W.contents output.old) (W.contents output.new) page.now next (take at page.now)) }
 {
     if page.len() - at < MOST {
-        out(page, at);
-        return 0;
+        out(output, page, at)?;
+        return Ok(0);
     }
-    at
+    Ok(at)
 }
 
 // One number of the memory.
-fn put(page: &mut [u8], at: usize, x: u16) -> usize
+fn put<W: Write>(output: &mut W, page: &mut [u8], at: usize, x: u16) -> io::Result<usize>
     requires { Page page.old at }
-    ensures { Page page.new result }
+    ensures page { IfOk result (λ next. Page page.new next) }
+    ensures text { IfOk result (λ next.
+        Gathered (W.contents output.old) (W.contents output.new) page.new next (take at page.old ++ number_text x)) }
 {
-    let next = turn(page, at);
-    pen::put_item(page, next, b" ", x as u64)
+    let next = turn(output, page, at)?;
+    Ok(pen::put_item(page, next, b" ", x as u64))
 }
 
-pub fn bytes(memory: &[u8]) {
-    word(b" memory");
+pub fn bytes<W: Write>(output: &mut W, memory: &[u8]) -> io::Result<()>
+    ensures { OnOk result (Appends (W.contents output.old) (W.contents output.new) (memory_text memory.now)) }
+{
+    word(output, b" memory")?;
     let mut page = [0u8; PAGE];
     let mut at = 0;
     let mut i = 0;
     while i < memory.len() {
-        at = put(&mut page, at, byte_word(memory[i]));
+        at = put(output, &mut page, at, byte_word(memory[i]))?;
         i += 1;
     }
-    out(&page, at);
-    word(b"\n");
+    out(output, &page, at)?;
+    word(output, b"\n")
 }
 
-pub fn entries(memory: &[u16]) {
-    word(b" memory");
+pub fn entries<W: Write>(output: &mut W, memory: &[u16]) -> io::Result<()>
+    ensures { OnOk result (Appends (W.contents output.old) (W.contents output.new) (memory_text memory.now)) }
+{
+    word(output, b" memory")?;
     let mut page = [0u8; PAGE];
     let mut at = 0;
     let mut i = 0;
     while i < memory.len() {
-        at = put(&mut page, at, memory[i]);
+        at = put(output, &mut page, at, memory[i])?;
         i += 1;
     }
-    out(&page, at);
-    word(b"\n");
+    out(output, &page, at)?;
+    word(output, b"\n")
 }

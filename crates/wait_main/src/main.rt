@@ -6,21 +6,28 @@ ghost use Rattle.std.specs.Prelude.{◌≡◌, length};
 ghost use Rattle.net.specs.Limits.{most_places};
 ghost use Rattle.net.specs.Good.{Marked, Wired};
 
+use input::fill;
 use keeping::{advance, keeps};
 use net::{EDGES, PLACES};
 use net_start::start::start_marking;
 use reader::look;
 use refusal::Verdict;
+use std::io;
+use std::io::Write;
 use waiting::wait;
 use waiting_graph::reply::Wait;
 
-fn number(label: &[u8], x: u64) {
-    io::write_all(1, label);
-    io::print_decimal(1, x);
+// The input goes no further.
+const INPUT: usize = 65536;
+
+fn number<W: Write>(out: &mut W, label: &[u8], x: u64) -> io::Result<()> {
+    out.write_all(label)?;
+    write!(out, "{x}")
 }
 
 // One transition: its wait, and whether it is kept just so long.
-fn line<'a>(
+fn line<'a, W: Write>(
+    out: &mut W,
     file: &[u8],
     n: usize,
     e: usize,
@@ -28,7 +35,7 @@ fn line<'a>(
     to: &'a [u8; EDGES],
     m: &[u8; PLACES],
     t: u16,
-)
+) -> io::Result<()>
     requires wired { Wired n e from.now to.now }
     requires m_len { length m.now ≡ most_places }
 {
@@ -36,38 +43,40 @@ fn line<'a>(
     let mut c = *m;
     let reply = wait(file, &c[..places], t);
     if let Wait::Waits(w) = reply {
-        number(b"wait ", t as u64);
-        number(b" ", w as u64);
+        number(out, b"wait ", t as u64)?;
+        number(out, b" ", w as u64)?;
         if keeps(n, e, from, to, &mut c[..places], t, w) {
-            io::write_all(1, b" kept\n");
-            return;
+            return out.write_all(b" kept\n");
         }
     }
-    io::write_all(1, b" wrong\n");
+    out.write_all(b" wrong\n")
 }
 
 // Every transition.
-fn lines<'a>(
+fn lines<'a, W: Write>(
+    out: &mut W,
     file: &[u8],
     n: usize,
     e: usize,
     from: &'a [u8; EDGES],
     to: &'a [u8; EDGES],
     m: &[u8; PLACES],
-)
+) -> io::Result<()>
     requires wired { Wired n e from.now to.now }
     requires m_len { length m.now ≡ most_places }
 {
     let end = (3 * n + 2) as u16;
     let mut t = 0;
     while t < end {
-        line(file, n, e, from, to, m, t);
+        line(out, file, n, e, from, to, m, t)?;
         t += 1;
     }
+    Ok(())
 }
 
 // Every transition, from the marking that so many firings lead to.
-fn after<'a>(
+fn after<'a, W: Write>(
+    out: &mut W,
     file: &[u8],
     n: usize,
     e: usize,
@@ -75,67 +84,68 @@ fn after<'a>(
     to: &'a [u8; EDGES],
     m: &[u8; PLACES],
     times: u32,
-)
+) -> io::Result<()>
     requires wired { Wired n e from.now to.now }
     requires m_len { length m.now ≡ most_places }
 {
     let places = 3 * n + 2 * e;
     let mut c = *m;
     advance(n, e, from, to, &mut c[..places], times);
-    number(b"after firings ", times as u64);
-    io::write_all(1, b"\n");
-    lines(file, n, e, from, to, &c);
+    number(out, b"after firings ", times as u64)?;
+    out.write_all(b"\n")?;
+    lines(out, file, n, e, from, to, &c)
 }
 
 // The start, and two markings further on.
-fn show<'a>(
+fn show<'a, W: Write>(
+    out: &mut W,
     file: &[u8],
     n: usize,
     e: usize,
     from: &'a [u8; EDGES],
     to: &'a [u8; EDGES],
     mark: &'a [u8; EDGES],
-)
+) -> io::Result<()>
     requires wired { Wired n e from.now to.now }
     requires marked { Marked n e mark.now }
 {
     let mut m = [0u8; PLACES];
     start_marking(n, e, mark, &mut m);
-    after(file, n, e, from, to, &m, 0);
-    after(file, n, e, from, to, &m, 5);
-    after(file, n, e, from, to, &m, 13);
+    after(out, file, n, e, from, to, &m, 0)?;
+    after(out, file, n, e, from, to, &m, 5)?;
+    after(out, file, n, e, from, to, &m, 13)
 }
 
-fn show_file(file: &[u8]) {
+fn show_file<W: Write>(out: &mut W, file: &[u8]) -> io::Result<()> {
     let looked = look(file);
     let verdict = looked.verdict;
     if let Verdict::Accepted = verdict {
         let g = looked.graph;
-        number(b"ops ", g.operations as u64);
-        number(b" edges ", g.edges as u64);
-        io::write_all(1, b"\n");
-        show(file, g.operations, g.edges, &g.from, &g.to, &g.mark);
-        return;
+        number(out, b"ops ", g.operations as u64)?;
+        number(out, b" edges ", g.edges as u64)?;
+        out.write_all(b"\n")?;
+        return show(out, file, g.operations, g.edges, &g.from, &g.to, &g.mark);
     }
-    io::write_all(1, b"refused\n");
+    out.write_all(b"refused\n")
 }
 
-fn each(s: &[u8]) {
+fn each<W: Write>(out: &mut W, s: &[u8]) -> io::Result<()> {
     let mut at = 0;
     while 2 <= s.len() - at {
         let start = at + 2;
         let length = little::word(s, at) as usize;
         if s.len() - start < length {
-            return;
+            return Ok(());
         }
         let end = start + length;
-        show_file(&s[start..end]);
+        show_file(out, &s[start..end])?;
         at = end;
     }
+    Ok(())
 }
 
-fn main() {
-    let mut buffer = io::large_buffer();
-    let n = io::read_full(0, &mut buffer);
-    each(&buffer[..n]);
+fn main(rt: HostRuntime) -> io::Result<()> {
+    let mut files = [0u8; INPUT];
+    let n = fill(&mut rt.stdin(), &mut files)?;
+    each(&mut rt.stdout(), &files[..n])
 }

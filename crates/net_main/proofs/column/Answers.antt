@@ -1,5 +1,4 @@
 -- The invariant: every entry lies between the two bounds.
-use Prim.Native.Nat.{◌-◌}
 use native.Mathlib.Omega.{arith}
 use Rattle.net_main.proofs.Tables.{column_fresh, column_set}
 use Rattle.net_main.proofs.column.Goals as goal

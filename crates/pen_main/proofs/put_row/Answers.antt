@@ -1,5 +1,4 @@
 -- The loop's invariant: the first i items are put.
-use Prim.Native.Nat.{◌-◌}
 use native.Mathlib.Omega.{arith}
 use Rattle.pen_put.proofs.PutLaws.{putting_start, putting_room, putting_on, putting_end, put_length}
 use Rattle.pen_main.specs.Page.{number_row}

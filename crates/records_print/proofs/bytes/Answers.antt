@@ -1,0 +1,15 @@
+-- One number more goes behind the others.
+use Rattle.std.proofs.Common.{rules, ap, ◌∙◌, subst, ◌++◌}
+use Rattle.little.specs.Text.{bytes}
+use Rattle.pen_put.specs.Lines.{series}
+use Rattle.records_print.specs.Page.{Gathered}
+use Rattle.records_print.specs.Text.{entry_text, number_text}
+use Rattle.records_print.proofs.Gathering.{gathered_on, series_on}
+use Rattle.records_print.proofs.bytes.Goals as goal
+
+pub loop-i-preserved : goal.loop-i-preserved
+loop-i-preserved g c =
+    let more = gathered_on _ c.loop-i.invariant.2 c.in_ok-at.ensures.text in
+    let row = bytes " memory" ++ series (entry_text c.args.memory.now) c.loop-i.i in
+    let is = ap (λ x. row ++ number_text x) c.byte_word.ensures.0 ∙ series_on (bytes " memory") (entry_text c.args.memory.now) c.loop-i.i in
+    (search rules, c.in_ok-at.ensures.page, subst (Gathered _ _ _ _) is more)
