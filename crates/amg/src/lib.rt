@@ -1,4 +1,4 @@
-// The calls for C and for Rust, declared in include/amg.h. Each makes one call of the crates below, and its word tells that call's reply.
+// The calls for C and for Rust, declared in include/amg.h; crate amg_c gives them the names that C links. Each makes one call of the crates below, and its word tells that call's reply.
 #![tactic(auto)]
 
 ghost use Rattle.amg.specs.Calls.{BoundsCall, LookCall, ReportCall, RunCall, StartCall, StepCall, WaitCall};
@@ -11,7 +11,6 @@ use net::{EDGES, OPERATIONS};
 use refusal::{Verdict, refusal_of};
 
 // Where the file is accepted, counts holds N and E, and the other arrays the times and the rows.
-#[unsafe(no_mangle)]
 pub extern "C" fn amg_look(
     file: &[u8],
     counts: &mut [u32; 2],
@@ -43,7 +42,6 @@ pub extern "C" fn amg_look(
     word
 }
 
-#[unsafe(no_mangle)]
 pub extern "C" fn amg_start(file: &[u8], marking: &mut [u8]) -> u64
     ensures { StartCall file.now marking.old result marking.new }
 {
@@ -51,7 +49,6 @@ pub extern "C" fn amg_start(file: &[u8], marking: &mut [u8]) -> u64
     start_word(said)
 }
 
-#[unsafe(no_mangle)]
 pub extern "C" fn amg_step(file: &[u8], marking: &mut [u8], transition: u16) -> u64
     ensures { StepCall file.now marking.old transition result marking.new }
 {
@@ -60,7 +57,6 @@ pub extern "C" fn amg_step(file: &[u8], marking: &mut [u8], transition: u16) -> 
 }
 
 // The word's count is the firings.
-#[unsafe(no_mangle)]
 pub extern "C" fn amg_run(file: &[u8], marking: &mut [u8], list: &[u16]) -> u64
     ensures { RunCall file.now marking.old list.now result marking.new }
 {
@@ -69,7 +65,6 @@ pub extern "C" fn amg_run(file: &[u8], marking: &mut [u8], list: &[u16]) -> u64
 }
 
 // The word's count is the wait.
-#[unsafe(no_mangle)]
 pub extern "C" fn amg_wait(file: &[u8], marking: &[u8], transition: u16) -> u64
     ensures { WaitCall file.now marking.now transition result }
 {
@@ -78,7 +73,6 @@ pub extern "C" fn amg_wait(file: &[u8], marking: &[u8], transition: u16) -> u64
 }
 
 // The word's count is the circuit's length; values are numerator, denominator, TBIO, TT and TCE.
-#[unsafe(no_mangle)]
 pub extern "C" fn amg_bounds(file: &[u8], circuit: &mut [u16], values: &mut [u64; 5]) -> u64
     ensures { BoundsCall file.now circuit.old values.old result circuit.new values.new }
 {
@@ -92,7 +86,6 @@ pub extern "C" fn amg_bounds(file: &[u8], circuit: &mut [u16], values: &mut [u64
 }
 
 // The word's count is the text's length, that of a refusal's one line too.
-#[unsafe(no_mangle)]
 pub extern "C" fn amg_report(file: &[u8], buffer: &mut [u8]) -> u64
     ensures { ReportCall file.now buffer.old result buffer.new }
 {

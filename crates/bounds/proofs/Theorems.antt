@@ -9,7 +9,7 @@ use Rattle.net.specs.Graph.{net_of, start_of, times_of}
 use Rattle.net.specs.Good.{Good}
 use Rattle.file.specs.Labels.{SameButLabels}
 use Rattle.reader.specs.Reply.{LookReply, shown}
-use Rattle.reader.specs.Outcome.{Ends, Outcome, accepted, passed}
+use Rattle.reader.specs.Outcome.{Ends, Outcome, accepted, passed, refused, unread}
 use Rattle.reader.specs.declared.graph.Graph.{Graph}
 use Rattle.reader.specs.declared.graph.Look.{Look}
 use Rattle.reader.proofs.Accepting.{accepted_good}
@@ -82,6 +82,8 @@ pub bounds_of_look : (f before after : List ℕ) (r : Measures) (l : Look) → L
 bounds_of_look f before after r l p q = of q.ends q.replies
   where
     of : {o : Outcome} → Ends f (bounds_rows before) o → BoundsReplies before o (Bounded r) after → BoundsOf (shown l.graph) before r after
+    of (unread u e) x = elim x [ ]
+    of (refused u e h) x = elim x [ ]
     of (passed {l = s} u e h) (bounded x) = subst (λ (k : Look). BoundsOf (shown k.graph) before r after) (look_determined f s l u p) x
 
 -- TBIO ≤ TT ≤ TCE.
@@ -89,6 +91,8 @@ pub bounds_ordered : (f before after : List ℕ) (r : Measures) → BoundsReply 
 bounds_ordered f before after r q = of q.ends q.replies
   where
     of : {o : Outcome} → Ends f (bounds_rows before) o → BoundsReplies before o (Bounded r) after → (r.tbio ≤ r.tt) × (r.tt ≤ r.tce)
+    of (unread u e) x = elim x [ ]
+    of (refused u e h) x = elim x [ ]
     of (passed {l = s} u e h) (bounded x) = (tbio_most x.tbio_is x.tt_is, tt_most (good_passing (accepted_good f s e u)) x.tt_is x.tce_is)
 
 -- A good graph has a path from the source to the data sink: TBIO and TT are never over nothing.

@@ -27,7 +27,7 @@ module _ (g : Net) (m time : ℕ → ℕ) (a b : ℕ) (D : ℕ → ℕ) where
   -- No walk of tight places stands before one that takes the lowest.
   not_before : {u v w : ℕ} {ps qs : List ℕ} → Before qs ps → Walk g u v ps → Walk g u w qs → All LowestOut ps → All (Tight g m time a b D) qs → ⊥
   not_before (lower {p = q} h) x y l t = omega (arith, l.0 q (walk_places y).0 t.0 (starts y ∙ sym (starts x)))
-  not_before (later k) x y l t = not_before k (rest x) (rest y) l.1 t.1
+  not_before (later {p = p} k) x y l t = not_before {u = g.dst p} k (rest x) (rest y) l.1 t.1
 
   module _ (cert : Certifies g m time a b D) {c p : ℕ} {ps : List ℕ} (ring : Circuit g c (p ∷ ps)) (low : LowestTight p) (out : All LowestOut ps) where
     -- Nor does a circuit, where the first place is the lowest of all.
