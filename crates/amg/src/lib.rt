@@ -11,7 +11,7 @@ use net::{EDGES, OPERATIONS};
 use refusal::{Verdict, refusal_of};
 
 // Where the file is accepted, counts holds N and E, and the other arrays the times and the rows.
-pub extern "C" fn amg_look(
+pub fn amg_look(
     file: &[u8],
     counts: &mut [u32; 2],
     times: &mut [u32; OPERATIONS],
@@ -42,14 +42,14 @@ pub extern "C" fn amg_look(
     word
 }
 
-pub extern "C" fn amg_start(file: &[u8], marking: &mut [u8]) -> u64
+pub fn amg_start(file: &[u8], marking: &mut [u8]) -> u64
     ensures { StartCall file.now marking.old result marking.new }
 {
     let said = stepping::start(file, marking);
     start_word(said)
 }
 
-pub extern "C" fn amg_step(file: &[u8], marking: &mut [u8], transition: u16) -> u64
+pub fn amg_step(file: &[u8], marking: &mut [u8], transition: u16) -> u64
     ensures { StepCall file.now marking.old transition result marking.new }
 {
     let said = stepping::step(file, marking, transition);
@@ -57,7 +57,7 @@ pub extern "C" fn amg_step(file: &[u8], marking: &mut [u8], transition: u16) -> 
 }
 
 // The word's count is the firings.
-pub extern "C" fn amg_run(file: &[u8], marking: &mut [u8], list: &[u16]) -> u64
+pub fn amg_run(file: &[u8], marking: &mut [u8], list: &[u16]) -> u64
     ensures { RunCall file.now marking.old list.now result marking.new }
 {
     let said = stepping::run(file, marking, list);
@@ -65,7 +65,7 @@ pub extern "C" fn amg_run(file: &[u8], marking: &mut [u8], list: &[u16]) -> u64
 }
 
 // The word's count is the wait.
-pub extern "C" fn amg_wait(file: &[u8], marking: &[u8], transition: u16) -> u64
+pub fn amg_wait(file: &[u8], marking: &[u8], transition: u16) -> u64
     ensures { WaitCall file.now marking.now transition result }
 {
     let said = waiting::wait(file, marking, transition);
@@ -73,7 +73,7 @@ pub extern "C" fn amg_wait(file: &[u8], marking: &[u8], transition: u16) -> u64
 }
 
 // The word's count is the circuit's length; values are numerator, denominator, TBIO, TT and TCE.
-pub extern "C" fn amg_bounds(file: &[u8], circuit: &mut [u16], values: &mut [u64; 5]) -> u64
+pub fn amg_bounds(file: &[u8], circuit: &mut [u16], values: &mut [u64; 5]) -> u64
     ensures { BoundsCall file.now circuit.old values.old result circuit.new values.new }
 {
     let said = bounds::bounds(file, circuit);
@@ -86,7 +86,7 @@ pub extern "C" fn amg_bounds(file: &[u8], circuit: &mut [u16], values: &mut [u64
 }
 
 // The word's count is the text's length, that of a refusal's one line too.
-pub extern "C" fn amg_report(file: &[u8], buffer: &mut [u8]) -> u64
+pub fn amg_report(file: &[u8], buffer: &mut [u8]) -> u64
     ensures { ReportCall file.now buffer.old result buffer.new }
 {
     let said = report::report(file, buffer);
