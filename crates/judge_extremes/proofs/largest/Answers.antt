@@ -1,7 +1,6 @@
 -- None of the entries so far is above the largest so far.
 use native.Mathlib.Omega.{arith}
 use borrow.Author.Count.{below_more}
-use Prim.Native.Nat.{◌-◌}
 use Rattle.judge_extremes.proofs.largest.Goals as goal
 
 pub loop-k-init : goal.loop-k-init

@@ -1,5 +1,4 @@
 -- The two arrays of marks say of each node whether it is linked; the nodes before the one at hand are.
-use Prim.Native.Nat.{◌-◌}
 use native.Mathlib.Omega.{arith}
 use borrow.Author.Count.{below_more}
 use Rattle.refusal.proofs.Answers.{denied, said}

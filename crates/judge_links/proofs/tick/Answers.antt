@@ -1,5 +1,5 @@
 -- The ends of the edges so far are marked, one edge more a turn.
-use Prim.Native.Nat.{◌<◌, ◌-◌}
+use Prim.Native.Nat.{◌<◌}
 use mathlib.Core.Path.{refl}
 use native.Mathlib.Omega.{arith}
 use lib.ListN.{length-set}

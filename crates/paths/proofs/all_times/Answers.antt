@@ -1,5 +1,5 @@
 -- `all_times` adds up: what it has is the sum of the first i times, at most 1,000,000 each.
-use Prim.Native.Nat.{◌+◌, ◌-◌, ℕ}
+use Prim.Native.Nat.{◌+◌, ℕ}
 use mathlib.Core.Path.{◌≡◌, ◌∙◌, ap}
 use native.Mathlib.Omega.{arith}
 use Rattle.net.specs.Limits.{longest_time}

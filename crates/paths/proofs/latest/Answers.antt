@@ -1,6 +1,5 @@
 -- `latest` compares edge by edge: what it has is the largest entry among the sinks seen.
 use Rattle.paths.proofs.Sinks.{latest_more, latest_none, latest_to}
-use Prim.Native.Nat.{◌-◌}
 use native.Mathlib.Omega.{arith}
 use Rattle.paths.proofs.latest.Goals as goal
 

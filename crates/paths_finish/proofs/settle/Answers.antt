@@ -1,5 +1,4 @@
 -- `settle` ends: a sweep that changes something raises the sum of the entries, and no entry exceeds the sum of all times.
-use Prim.Native.Nat.{◌-◌}
 use native.Mathlib.Omega.{arith}
 use Rattle.paths_finish.proofs.Bounded.{entries_most}
 use Rattle.paths_finish.proofs.settle.Goals as goal

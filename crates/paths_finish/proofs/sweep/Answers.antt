@@ -1,6 +1,5 @@
 -- `sweep` raises edge by edge: what holds after the first k edges holds after one more.
 use Rattle.paths_finish.proofs.Sweeps.{swept_more, swept_none, swept_to}
-use Prim.Native.Nat.{◌-◌}
 use native.Mathlib.Omega.{arith}
 use Rattle.paths_finish.proofs.sweep.Goals as goal
 

@@ -1,6 +1,5 @@
 -- The loop's invariant: the first i bytes of the word are put.
 use mathlib.Core.Path.{refl}
-use Prim.Native.Nat.{◌-◌}
 use native.Mathlib.Omega.{arith}
 use lib.Seq.{take_all}
 use Rattle.pen_put.proofs.PutLaws.{put_length, put_next}

@@ -1,5 +1,4 @@
 -- The invariant: the first i items stand in left.
-use Prim.Native.Nat.{◌-◌}
 use mathlib.Core.Path.{sym, subst}
 use native.Mathlib.Omega.{arith}
 use Rattle.tbo_order.specs.helpers.Items.{Item}

@@ -1,5 +1,4 @@
 -- The invariant: the pass stands at i.
-use Prim.Native.Nat.{◌-◌}
 use native.Mathlib.Omega.{arith}
 use mathlib.Core.Path.{refl, ◌∙◌}
 use Rattle.tbo_order.proofs.Sorting.{sort_again}

@@ -1,5 +1,4 @@
 -- An operation or an edge.
-use Prim.Native.Nat.{◌-◌}
 use native.Mathlib.Omega.{arith}
 use Rattle.tbo_order.proofs.Sorting.{item_edge, item_op}
 use Rattle.tbo_sweep.proofs.Among.{of_edge, of_op}

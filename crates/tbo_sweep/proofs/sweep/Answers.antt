@@ -1,5 +1,4 @@
 -- The invariant: the places of the first j items have been tried.
-use Prim.Native.Nat.{◌-◌}
 use mathlib.Core.Path.{sym, subst}
 use native.Mathlib.Omega.{arith}
 use Rattle.fraction.proofs.Loads.{weighted_short}

@@ -1,6 +1,5 @@
 -- The loop has compared every byte before i; a byte that differs breaks the rule.
 use Rattle.refusal.specs.helpers.Answers.{fails, holds}
-use Prim.Native.Nat.{◌-◌}
 use mathlib.Core.Path.{sym, ◌∙◌}
 use borrow.Author.Count.{below_more}
 use native.Mathlib.Omega.{arith}

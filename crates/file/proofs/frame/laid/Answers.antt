@@ -2,7 +2,7 @@
 use Rattle.refusal.proofs.Answers.{denied, said, says_map}
 use Rattle.refusal.specs.helpers.Answers.{fails, holds}
 use native.Mathlib.Omega.{arith}
-use mathlib.Core.Logic.{◌⊎◌, inl, inr, ⊎_elim}
+use mathlib.Core.Logic.{inl, inr, ⊎_elim}
 use Rattle.file_trailer.specs.File.{trailer_at}
 use Rattle.file.proofs.frame.laid.Goals as goal
 

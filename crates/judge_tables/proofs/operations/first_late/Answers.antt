@@ -2,7 +2,6 @@
 use Rattle.refusal.proofs.Answers.{said, denied}
 use borrow.Author.Count.{below_more}
 use native.Mathlib.Omega.{arith}
-use Prim.Native.Nat.{◌-◌}
 use Rattle.judge_tables.proofs.operations.first_late.Goals as goal
 
 pub loop-i-init : goal.loop-i-init

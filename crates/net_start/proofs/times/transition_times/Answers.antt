@@ -1,7 +1,6 @@
 -- The invariant: the transitions before row i's process have their times.
 use Rattle.net_start.proofs.Timing.{timed_none, timed_on}
 use native.Mathlib.Omega.{arith}
-use Prim.Native.Nat.{◌-◌}
 use Rattle.net_start.proofs.times.transition_times.Goals as goal
 
 pub loop-i-init : goal.loop-i-init
