@@ -1,3 +1,2 @@
 // Document 01's graphs worked through. It has no code: the table is in specs/, and that it holds is proved in proofs/.
 #![tactic(auto)]
-
