@@ -1,5 +1,7 @@
 // The call that a letter names, and the lines of bounds and report: name, the refusal's number and place, values, the lent memory afterwards.
-ghost use Rattle.std.specs.Prelude.{◌≤◌};
+ghost use Rattle.std.specs.Prelude.{◌≡◌, ◌≤◌, List, ℕ, length, IfOk, OnOk};
+ghost use Rattle.std.specs.Io.KnownBytes.{Appends};
+ghost use Rattle.records.specs.Called.{BoundsLine, Called, ReportLine, bounds_values_text, first_of, report_buffer, report_values_text, room_of};
 
 use bounds_graph::reply::Bounds;
 use records_marking::{look_line, run_line, start_line, step_line, wait_line};
@@ -9,7 +11,9 @@ use report_graph::reply::Report;
 use std::io;
 use std::io::Write;
 
-fn bounds_values<W: Write>(output: &mut W, reply: Bounds) -> io::Result<()> {
+fn bounds_values<W: Write>(output: &mut W, reply: Bounds) -> io::Result<()>
+    ensures { OnOk result (Appends (W.contents output.old) (W.contents output.new) (bounds_values_text reply)) }
+{
     match reply {
         Bounds::Bounded(found) => {
             head(output, b"bounds", none())?;
@@ -27,7 +31,9 @@ fn bounds_values<W: Write>(output: &mut W, reply: Bounds) -> io::Result<()> {
     }
 }
 
-fn bounds_line<W: Write>(output: &mut W, file: &[u8], list: &mut [u16]) -> io::Result<()> {
+fn bounds_line<W: Write>(output: &mut W, file: &[u8], list: &mut [u16]) -> io::Result<()>
+    ensures { OnOk result (BoundsLine file.now list.old list.new (W.contents output.old) (W.contents output.new)) }
+{
     let reply = bounds::bounds(file, list);
     bounds_values(output, reply)?;
     entries(output, list)
@@ -35,7 +41,8 @@ fn bounds_line<W: Write>(output: &mut W, file: &[u8], list: &mut [u16]) -> io::R
 
 // How long the report's buffer is.
 fn room(asked: usize) -> usize
-    ensures { result ≤ 4096 }
+    ensures bound { result ≤ 4096 }
+    ensures value { result ≡ room_of asked }
 {
     if asked == 0 {
         return report::ROOM;
@@ -46,7 +53,9 @@ fn room(asked: usize) -> usize
     asked
 }
 
-fn report_values<W: Write>(output: &mut W, reply: Report) -> io::Result<()> {
+fn report_values<W: Write>(output: &mut W, reply: Report) -> io::Result<()>
+    ensures { OnOk result (Appends (W.contents output.old) (W.contents output.new) (report_values_text reply)) }
+{
     match reply {
         Report::Written { length } => {
             head(output, b"report", none())?;
@@ -59,20 +68,26 @@ fn report_values<W: Write>(output: &mut W, reply: Report) -> io::Result<()> {
     }
 }
 
-fn report_in<W: Write>(output: &mut W, file: &[u8], buffer: &mut [u8]) -> io::Result<()> {
+fn report_in<W: Write>(output: &mut W, file: &[u8], buffer: &mut [u8]) -> io::Result<()>
+    ensures { OnOk result (ReportLine file.now buffer.old buffer.new (W.contents output.old) (W.contents output.new)) }
+{
     let reply = report::report(file, buffer);
     report_values(output, reply)?;
     bytes(output, buffer)
 }
 
-fn report_line<W: Write>(output: &mut W, file: &[u8], asked: usize) -> io::Result<()> {
+fn report_line<W: Write>(output: &mut W, file: &[u8], asked: usize) -> io::Result<()>
+    ensures { OnOk result ((left : List ℕ) × ReportLine file.now (report_buffer asked) left (W.contents output.old) (W.contents output.new)) }
+{
     let mut buffer = [170u8; report::ROOM];
     let n = room(asked);
     report_in(output, file, &mut buffer[..n])
 }
 
 // The transition asked for: the list's first entry, or one that no graph has.
-fn first(list: &[u16]) -> u16 {
+fn first(list: &[u16]) -> u16
+    ensures { result ≡ first_of list.now }
+{
     if list.len() == 0 {
         return 65535;
     }
@@ -86,7 +101,10 @@ pub fn call<W: Write>(
     file: &[u8],
     list: &mut [u16],
     marking: &mut [u8],
-) -> io::Result<bool> {
+) -> io::Result<bool>
+    ensures { IfOk result (λ named. Called letter file.now list.old list.new marking.old marking.new
+        (W.contents output.old) (W.contents output.new) named) }
+{
     match letter {
         b'L' => look_line(output, file)?,
         b'S' => start_line(output, file, marking)?,

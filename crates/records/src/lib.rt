@@ -3,8 +3,12 @@
 
 mod calls;
 
-ghost use Rattle.std.specs.Prelude.{◌≡◌, ◌<◌, ◌≤◌, length, IfOk};
-ghost use Rattle.records.specs.Parts.{Next, Twice};
+ghost use Rattle.std.specs.Prelude.{◌≡◌, ◌<◌, ◌≤◌, ◌/◌, List, ℕ, length, take, drop, slice_range, IfOk, OnOk};
+ghost use Rattle.std.specs.Io.KnownBytes.{Appends};
+ghost use Rattle.little.specs.Text.{bytes};
+ghost use Rattle.records.specs.Called.{Called};
+ghost use Rattle.records.specs.Parts.{Next, Twice, count_at, words};
+ghost use Rattle.records.specs.Records.{Line, Lines, Played};
 
 use input::fill;
 use records_print::word;
@@ -20,6 +24,7 @@ const ENTRIES: usize = 30000;
 // The entries of a list, two bytes each.
 fn entries(s: &[u8]) -> [u16; ENTRIES]
     requires { length s.now ≤ 60000 }
+    ensures { take (length s.now / 2) result ≡ words s.now }
 {
     let mut out = [0u16; ENTRIES];
     let mut k = 0;
@@ -32,7 +37,8 @@ fn entries(s: &[u8]) -> [u16; ENTRIES]
 
 // The count that a part begins with, two bytes; 0 where the input ends before them, and then the part ends behind it too.
 fn count(s: &[u8], at: usize) -> usize
-    ensures { result < 65536 }
+    ensures bound { result < 65536 }
+    ensures value { result ≡ count_at s.now at }
 {
     if s.len() < 2 {
         return 0;
@@ -45,7 +51,8 @@ fn count(s: &[u8], at: usize) -> usize
 
 // A record that is cut short, or whose letter names no call, is the last.
 fn cut<W: Write>(output: &mut W, s: &[u8]) -> io::Result<usize>
-    ensures { IfOk result (λ end. end ≡ length s.now) }
+    ensures end { IfOk result (λ end. end ≡ length s.now) }
+    ensures text { OnOk result (Appends (W.contents output.old) (W.contents output.new) (bytes "cut\n")) }
 {
     word(output, b"cut\n")?;
     Ok(s.len())
@@ -60,6 +67,8 @@ fn with_list<W: Write>(
     marking: &mut [u8],
 ) -> io::Result<bool>
     requires { length list.now ≤ 60000 }
+    ensures { IfOk result (λ named. (left : List ℕ) × Called letter file.now (words list.now) left marking.old marking.new
+        (W.contents output.old) (W.contents output.new) named) }
 {
     let mut transitions = entries(list);
     let n = list.len() / 2;
@@ -70,7 +79,10 @@ fn with_list<W: Write>(
 fn record<W: Write>(output: &mut W, s: &[u8], copy: &mut [u8], at: usize) -> io::Result<usize>
     requires twice { Twice s.now copy.old }
     requires at_in_bounds { at < length s.now }
-    ensures { IfOk result (λ next. Next s.now at next) }
+    ensures next { IfOk result (λ next. Next s.now at next) }
+    ensures same { drop at copy.old ≡ drop at s.now → IfOk result (λ next. drop next copy.new ≡ drop next s.now) }
+    ensures line { drop at copy.old ≡ drop at s.now → IfOk result (λ next.
+        Line s.now at (W.contents output.old) (W.contents output.new) next) }
 {
     let file = at + 3;
     let file_end = file + count(s, at + 1);
@@ -96,6 +108,7 @@ fn record<W: Write>(output: &mut W, s: &[u8], copy: &mut [u8], at: usize) -> io:
 // Every record.
 fn each<W: Write>(output: &mut W, s: &[u8], copy: &mut [u8]) -> io::Result<()>
     requires { Twice s.now copy.old }
+    ensures { copy.old ≡ s.now → OnOk result (Lines s.now 0 (W.contents output.old) (W.contents output.new)) }
 {
     let mut at = 0;
     while at < s.len() {
@@ -105,7 +118,9 @@ fn each<W: Write>(output: &mut W, s: &[u8], copy: &mut [u8]) -> io::Result<()>
 }
 
 // Every record of the input.
-pub fn play<R: Read, W: Write>(input: &mut R, output: &mut W) -> io::Result<()> {
+pub fn play<R: Read, W: Write>(input: &mut R, output: &mut W) -> io::Result<()>
+    ensures { OnOk result (Played (R.remaining input.old) (W.contents output.old) (W.contents output.new)) }
+{
     let mut records = [0u8; INPUT];
     let n = fill(input, &mut records)?;
     let mut copy = records;

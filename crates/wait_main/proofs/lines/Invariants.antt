@@ -3,7 +3,7 @@ use Prim.Native.Nat.{◌-◌, ◌≤◌}
 use Rattle.wait_main.proofs.lines.Given as goal
 
 abbrev pub invariant-loop-t : goal.invariant-loop-t
-invariant-loop-t l = l.t ≤ l.end
+invariant-loop-t g l = l.t ≤ l.end
 
 abbrev pub decreases-loop-t : goal.decreases-loop-t
-decreases-loop-t l = l.end - l.t
+decreases-loop-t g l = l.end - l.t

@@ -1,0 +1,40 @@
+-- Where a record's parts end; and a call that was made on the copy of the input.
+use Rattle.std.proofs.Common.{◌≡◌, ℕ, ◌+◌, ◌*◌, ◌-◌, ◌≤◌, Bool, List, length, get_or, drop, take, slice_range, IfOk, Result, Ok, Err, ap, subst, arith}
+use Rattle.std.specs.declared.option.Option.{Option}
+use Rattle.records.specs.Called.{Called}
+use Rattle.records.specs.Parts.{Ends, count_at, words}
+use Rattle.records.specs.Records.{Made}
+use Rattle.records.proofs.Behind.{behind}
+
+-- what holds of a result's value in two ways
+pub both : {T E : Type 0} {P Q R : T → Type 0} (r : Result T E) → IfOk r P → IfOk r Q → ((x : T) → P x → Q x → R x) → IfOk r R
+both (Ok x) p q f = f x p q
+both (Err e) p q f = tt
+
+-- three counts tell where the parts end
+pub ends : (s : List ℕ) (at a b c : ℕ) → a ≡ count_at s (at + 1) → b ≡ count_at s (at + 3 + a) → c ≡ count_at s (at + 3 + a + 2 + 2 * b)
+    → Ends s at (at + 3 + a) (at + 3 + a + 2 + 2 * b) (at + 3 + a + 2 + 2 * b + 2 + c)
+ends s at a b c p q r =
+    record {
+      file = ap (λ x. at + 3 + x) p;
+      list = ap (λ x. at + 3 + a + 2 + 2 * x) q;
+      marking = ap (λ x. at + 3 + a + 2 + 2 * b + 2 + x) r;
+    }
+
+-- a call whose marking is lent from the copy, which is the input's from the record on
+pub made_of : (s copy list marking : List ℕ) (at f l m : ℕ) (old new : Option (List ℕ)) (named is : Bool) → Ends s at f l m → m ≤ length s → drop at copy ≡ drop at s → named ≡ is
+    → Called (get_or s at 0) (slice_range s (at + 3) f) (words (slice_range s (f + 2) l)) list (slice_range copy (l + 2) m) marking old new named
+    → Made s at f l m old new is
+made_of s copy list marking at f l m old new named is e w same n c =
+    let part : slice_range copy (l + 2) m ≡ slice_range s (l + 2) m = ap (take (m - (l + 2))) (behind copy s at (l + 2) (omega (arith, e.file, e.list)) same) in
+    let letter = get_or s at 0 in
+    let file = slice_range s (at + 3) f in
+    let entries = words (slice_range s (f + 2) l) in
+    let answered = subst (λ b. Called letter file entries list (slice_range copy (l + 2) m) marking old new b) n c in
+    record {
+      ends = e;
+      whole = w;
+      list = list;
+      marking = marking;
+      called = subst (λ lent. Called letter file entries list lent marking old new is) part answered;
+    }
