@@ -1,6 +1,8 @@
 -- Where a record's parts end; and a call that was made on the copy of the input.
-use Rattle.std.proofs.Common.{◌≡◌, ℕ, ◌+◌, ◌*◌, ◌-◌, ◌≤◌, Bool, List, length, get_or, drop, take, slice_range, IfOk, Result, Ok, Err, ap, subst, arith}
+use Rattle.std.proofs.Common.{◌≡◌, ℕ, ◌+◌, ◌*◌, ◌-◌, ◌≤◌, Bool, List, length, get_or, drop, take, slice_range, IfOk, Result, Ok, Err, ap, sym, ◌∙◌, subst, arith}
+use Rattle.std.proofs.lemmas.Slice.{drop-put_mid}
 use Rattle.std.specs.declared.option.Option.{Option}
+use borrow.Rule.Slice.PartMut.{put_mid}
 use Rattle.records.specs.Called.{Called}
 use Rattle.records.specs.Parts.{Ends, count_at, words}
 use Rattle.records.specs.Records.{Made}
@@ -20,6 +22,18 @@ ends s at a b c p q r =
       list = ap (λ x. at + 3 + a + 2 + 2 * x) q;
       marking = ap (λ x. at + 3 + a + 2 + 2 * b + 2 + x) r;
     }
+
+-- and so they end at one place
+pub one_end : {s : List ℕ} {at f l m f' l' m' : ℕ} → Ends s at f l m → Ends s at f' l' m' → m ≡ m'
+one_end {s} {at} e e' =
+    let file = e.file ∙ sym e'.file in
+    let list = e.list ∙ ap (λ x. x + 2 + 2 * count_at s x) file ∙ sym e'.list in
+    e.marking ∙ ap (λ x. x + 2 + count_at s x) list ∙ sym e'.marking
+
+-- what is written into the record's marking leaves what is behind the record
+pub behind_part : {s : List ℕ} {at f l m f' l' end : ℕ} (from : ℕ) (copy part : List ℕ) → Ends s at f l m → Ends s at f' l' end → from ≤ end → end ≤ length copy → length part ≡ end - from
+    → drop m (put_mid from (end - from) copy part) ≡ drop m copy
+behind_part {m = m} {end = end} from copy part e e' p q r = drop-put_mid from (end - from) copy part m (omega (arith, one_end e e', p)) (omega (arith, p, q)) r
 
 -- a call whose marking is lent from the copy, which is the input's from the record on
 pub made_of : (s copy list marking : List ℕ) (at f l m : ℕ) (old new : Option (List ℕ)) (named is : Bool) → Ends s at f l m → m ≤ length s → drop at copy ≡ drop at s → named ≡ is

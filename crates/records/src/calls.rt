@@ -2,6 +2,7 @@
 ghost use Rattle.std.specs.Prelude.{◌≡◌, ◌≤◌, List, ℕ, length, IfOk, OnOk};
 ghost use Rattle.std.specs.Io.KnownBytes.{Appends};
 ghost use Rattle.records.specs.Called.{BoundsLine, Called, ReportLine, bounds_values_text, first_of, report_buffer, report_values_text, room_of};
+ghost use Rattle.records.specs.Left.{BoundsLeaves, Leaves, ReportLeaves};
 
 use bounds_graph::reply::Bounds;
 use records_marking::{look_line, run_line, start_line, step_line, wait_line};
@@ -32,7 +33,8 @@ fn bounds_values<W: Write>(output: &mut W, reply: Bounds) -> io::Result<()>
 }
 
 fn bounds_line<W: Write>(output: &mut W, file: &[u8], list: &mut [u16]) -> io::Result<()>
-    ensures { OnOk result (BoundsLine file.now list.old list.new (W.contents output.old) (W.contents output.new)) }
+    ensures line { OnOk result (BoundsLine file.now list.old list.new (W.contents output.old) (W.contents output.new)) }
+    ensures left { BoundsLeaves file.now list.old list.new }
 {
     let reply = bounds::bounds(file, list);
     bounds_values(output, reply)?;
@@ -69,7 +71,8 @@ fn report_values<W: Write>(output: &mut W, reply: Report) -> io::Result<()>
 }
 
 fn report_in<W: Write>(output: &mut W, file: &[u8], buffer: &mut [u8]) -> io::Result<()>
-    ensures { OnOk result (ReportLine file.now buffer.old buffer.new (W.contents output.old) (W.contents output.new)) }
+    ensures line { OnOk result (ReportLine file.now buffer.old buffer.new (W.contents output.old) (W.contents output.new)) }
+    ensures left { ReportLeaves file.now buffer.old buffer.new }
 {
     let reply = report::report(file, buffer);
     report_values(output, reply)?;
@@ -102,8 +105,9 @@ pub fn call<W: Write>(
     list: &mut [u16],
     marking: &mut [u8],
 ) -> io::Result<bool>
-    ensures { IfOk result (λ named. Called letter file.now list.old list.new marking.old marking.new
+    ensures line { IfOk result (λ named. Called letter file.now list.old list.new marking.old marking.new
         (W.contents output.old) (W.contents output.new) named) }
+    ensures left { Leaves letter file.now list.old list.new marking.old marking.new }
 {
     match letter {
         b'L' => look_line(output, file)?,

@@ -7,7 +7,8 @@ ghost use Rattle.std.specs.Prelude.{◌≡◌, ◌<◌, ◌≤◌, ◌/◌, List
 ghost use Rattle.std.specs.Io.KnownBytes.{Appends};
 ghost use Rattle.little.specs.Text.{bytes};
 ghost use Rattle.records.specs.Called.{Called};
-ghost use Rattle.records.specs.Parts.{Next, Twice, count_at, words};
+ghost use Rattle.records.specs.Left.{Leaves};
+ghost use Rattle.records.specs.Parts.{Ends, Next, Twice, count_at, words};
 ghost use Rattle.records.specs.Records.{Line, Lines, Played};
 
 use input::fill;
@@ -67,8 +68,9 @@ fn with_list<W: Write>(
     marking: &mut [u8],
 ) -> io::Result<bool>
     requires { length list.now ≤ 60000 }
-    ensures { IfOk result (λ named. (left : List ℕ) × Called letter file.now (words list.now) left marking.old marking.new
+    ensures line { IfOk result (λ named. (left : List ℕ) × Called letter file.now (words list.now) left marking.old marking.new
         (W.contents output.old) (W.contents output.new) named) }
+    ensures left { (left : List ℕ) × Leaves letter file.now (words list.now) left marking.old marking.new }
 {
     let mut transitions = entries(list);
     let n = list.len() / 2;
@@ -83,6 +85,7 @@ fn record<W: Write>(output: &mut W, s: &[u8], copy: &mut [u8], at: usize) -> io:
     ensures same { drop at copy.old ≡ drop at s.now → IfOk result (λ next. drop next copy.new ≡ drop next s.now) }
     ensures line { drop at copy.old ≡ drop at s.now → IfOk result (λ next.
         Line s.now at (W.contents output.old) (W.contents output.new) next) }
+    ensures behind { (f l m : ℕ) → Ends s.now at f l m → drop m copy.new ≡ drop m copy.old }
 {
     let file = at + 3;
     let file_end = file + count(s, at + 1);

@@ -76,3 +76,13 @@ RunLine f before list after old new = Told (λ (r : Ran). RunReply f before list
 
 abbrev pub WaitLine : List ℕ → List ℕ → ℕ → Option (List ℕ) → Option (List ℕ) → Type 0
 WaitLine f marking t old new = Told (λ (r : Wait). WaitReply f marking t r) (λ (r : Wait). wait_text r marking) old new
+
+-- What a call leaves in the marking, also where its line is not written: what some reply that its contract allows goes with.
+abbrev pub StartLeaves : List ℕ → List ℕ → List ℕ → Type 0
+StartLeaves f before after = (r : Start) × StartReply f before r after
+
+abbrev pub StepLeaves : List ℕ → List ℕ → ℕ → List ℕ → Type 0
+StepLeaves f before t after = (r : Answer) × StepReply f before t r after
+
+abbrev pub RunLeaves : List ℕ → List ℕ → List ℕ → List ℕ → Type 0
+RunLeaves f before list after = (r : Ran) × RunReply f before list r after

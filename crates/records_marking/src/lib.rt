@@ -4,7 +4,7 @@
 ghost use Rattle.std.specs.Prelude.{◌≤◌, OnOk};
 ghost use Rattle.std.specs.Io.KnownBytes.{Appends};
 ghost use Rattle.net.specs.Limits.{most_edges, most_operations};
-ghost use Rattle.records_marking.specs.Lines.{LookLine, RunLine, StartLine, StepLine, WaitLine, graph_text, rows_text, times_text, wait_values_text};
+ghost use Rattle.records_marking.specs.Lines.{LookLine, RunLeaves, RunLine, StartLeaves, StartLine, StepLeaves, StepLine, WaitLine, graph_text, rows_text, times_text, wait_values_text};
 
 use casts::{byte_long, quad_long};
 use reader::graph::Graph;
@@ -75,7 +75,8 @@ pub fn look_line<W: Write>(output: &mut W, file: &[u8]) -> io::Result<()>
 }
 
 pub fn start_line<W: Write>(output: &mut W, file: &[u8], marking: &mut [u8]) -> io::Result<()>
-    ensures { OnOk result (StartLine file.now marking.old marking.new (W.contents output.old) (W.contents output.new)) }
+    ensures line { OnOk result (StartLine file.now marking.old marking.new (W.contents output.old) (W.contents output.new)) }
+    ensures left { StartLeaves file.now marking.old marking.new }
 {
     let reply = stepping::start(file, marking);
     head(output, b"start", start_refusal(reply))?;
@@ -88,7 +89,8 @@ pub fn step_line<W: Write>(
     marking: &mut [u8],
     transition: u16,
 ) -> io::Result<()>
-    ensures { OnOk result (StepLine file.now marking.old transition marking.new (W.contents output.old) (W.contents output.new)) }
+    ensures line { OnOk result (StepLine file.now marking.old transition marking.new (W.contents output.old) (W.contents output.new)) }
+    ensures left { StepLeaves file.now marking.old transition marking.new }
 {
     let reply = stepping::step(file, marking, transition);
     head(output, b"step", step_refusal(reply))?;
@@ -101,7 +103,8 @@ pub fn run_line<W: Write>(
     marking: &mut [u8],
     list: &[u16],
 ) -> io::Result<()>
-    ensures { OnOk result (RunLine file.now marking.old list.now marking.new (W.contents output.old) (W.contents output.new)) }
+    ensures line { OnOk result (RunLine file.now marking.old list.now marking.new (W.contents output.old) (W.contents output.new)) }
+    ensures left { RunLeaves file.now marking.old list.now marking.new }
 {
     let reply = stepping::run(file, marking, list);
     let end = reply.end;

@@ -1,7 +1,7 @@
 // What a line is made of: words, numbers behind a blank, and the lent memory, which ends it.
 #![tactic(auto)]
 
-ghost use Rattle.std.specs.Prelude.{◌++◌, take, IfOk, OnOk};
+ghost use Rattle.std.specs.Prelude.{◌≡◌, ◌++◌, take, IfOk, OnErr, OnOk};
 ghost use Rattle.std.specs.Io.KnownBytes.{Appends};
 ghost use Rattle.records_print.specs.Page.{Gathered, Page, Roomy};
 ghost use Rattle.records_print.specs.Text.{head_text, memory_text, number_text};
@@ -68,6 +68,7 @@ fn put<W: Write>(output: &mut W, page: &mut [u8], at: usize, x: u16) -> io::Resu
     ensures page { IfOk result (λ next. Page page.new next) }
     ensures text { IfOk result (λ next.
         Gathered (W.contents output.old) (W.contents output.new) page.new next (take at page.old ++ number_text x)) }
+    ensures err { OnErr result (page.new ≡ page.old) }
 {
     let next = turn(output, page, at)?;
     Ok(pen::put_item(page, next, b" ", x as u64))

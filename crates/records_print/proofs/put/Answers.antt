@@ -15,4 +15,5 @@ returns g c =
     record {
       page = record { long = omega (arith, length, c.requires.long); within = omega (arith, length, within, c.requires.long) };
       text = gathered_put c.in_ok-next.ensures.text room c.put_item.ensures;
+      err = tt;
     }
