@@ -4,13 +4,12 @@ use mathlib.Core.Logic.{inl, inr}
 use mathlib.Core.List.{List, [], ◌++◌, ◌∷◌}
 use Prim.Native.Nat.{ℕ}
 use native.Mathlib.Omega.{arith}
-use Rattle.refusal.specs.Asking.{AllKept, Ask, FirstBroken, Given, Judged, Kept, Lowest, Sound, asked, given, sound}
+use Rattle.refusal.specs.Asking.{AllKept, Ask, FirstBroken, Given, Judged, Kept, Lowest, Sound, asked, given, sound, Verdict}
 use Rattle.refusal.specs.helpers.Answers.{Finds}
-use Rattle.refusal.specs.declared.Found.{Found}
-use Rattle.refusal.specs.declared.Found.TheVariants.{At, Nothing}
+use Rattle.std.specs.Prelude.{None, Option, Some}
 use Rattle.refusal.specs.declared.Refusal.{Refusal}
-use Rattle.refusal.specs.declared.Verdict.{Verdict}
-use Rattle.refusal.specs.declared.Verdict.TheVariants.{Accepted, Refused}
+use Rattle.refusal.specs.Numbers.{number_of}
+use Rattle.std.specs.Prelude.{Err, Ok}
 
 -- A rule of the whole that fails is broken at 0.
 pub lowest_whole : {k : ℕ} {P : Type 0} → (P → ⊥) → Lowest (asked k P) 0
@@ -21,18 +20,18 @@ pub sound_none : Sound []
 sound_none = record { kept = tt }
 
 -- The first row is broken: its refusal is given.
-pub given_here : {a : Ask} {rows : List Ask} (r : Refusal) → a.number ≡ r.number → Lowest a r.place → Given (a ∷ rows) r
+pub given_here : {a : Ask} {rows : List Ask} (r : Refusal) → a.number ≡ (number_of r.reason) → Lowest a r.place → Given (a ∷ rows) r
 given_here r e p = record { first = inl (e, p) }
 
 -- A verdict that tells the refusal that is given.
-pub judged_refused : {rows : List Ask} {v : Verdict} (r : Refusal) → v ≡ Refused r → Given rows r → Judged rows v
+pub judged_refused : {rows : List Ask} {v : Verdict} (r : Refusal) → v ≡ Err r → Given rows r → Judged rows v
 judged_refused {rows} r e p = subst (λ (w : Verdict). Judged rows w) (sym e) (given p)
 
 -- What a known verdict gives.
-pub judged_sound : {rows : List Ask} → Judged rows Accepted → Sound rows
+pub judged_sound : {rows : List Ask} → Judged rows (Ok tt) → Sound rows
 judged_sound (sound p) = p
 
-pub judged_given : {rows : List Ask} {r : Refusal} → Judged rows (Refused r) → Given rows r
+pub judged_given : {rows : List Ask} {r : Refusal} → Judged rows (Err r) → Given rows r
 judged_given (given p) = p
 
 -- The first row is kept: what follows decides.
@@ -50,7 +49,7 @@ judged_next p (given q) = given (given_next p q)
 pub given_first : (rows more : List Ask) {r : Refusal} → Given rows r → Given (rows ++ more) r
 given_first rows more {r} p = record { first = go rows p.first }
   where
-    go : (rows : List Ask) → FirstBroken rows r.number r.place → FirstBroken (rows ++ more) r.number r.place
+    go : (rows : List Ask) → FirstBroken rows (number_of r.reason) r.place → FirstBroken (rows ++ more) (number_of r.reason) r.place
     go [] p = absurd p
     go (a ∷ rows) (inl p) = inl p
     go (a ∷ rows) (inr p) = inr (p.0, go rows p.1)
@@ -72,9 +71,9 @@ sound_parts (a ∷ rows) more p = rest (sound_parts rows more (record { kept = p
     rest q = (sound_next p.kept.0 q.0, q.1)
 
 -- What a search answers, where it is known: the row's lowest place, and so its refusal,
-pub found_at : (a : Ask) (r : Found) {x : ℕ} → r ≡ At x → Finds a r → Lowest a x
+pub found_at : (a : Ask) (r : Option ℕ) {x : ℕ} → r ≡ Some x → Finds a r → Lowest a x
 found_at a r e h = subst (Finds a) e h
 
 -- or that the row is kept.
-pub found_none : (a : Ask) (r : Found) → r ≡ Nothing → Finds a r → Kept a
+pub found_none : (a : Ask) (r : Option ℕ) → r ≡ None → Finds a r → Kept a
 found_none a r e h = subst (Finds a) e h

@@ -5,10 +5,11 @@ use mathlib.Core.List.{List, [], ◌∷◌}
 use Prim.Native.Nat.{ℕ}
 use native.Mathlib.Omega.{arith}
 use native.Mathlib.Decide.{dec_lt}
-use Rattle.refusal.specs.Asking.{AllKept, Ask, FirstBroken, Given, Judged, Lowest, Sound, given, sound}
+use Rattle.refusal.specs.Asking.{AllKept, Ask, FirstBroken, Given, Judged, Lowest, Sound, given, sound, Verdict}
 use Rattle.refusal.specs.declared.Refusal.{Refusal}
-use Rattle.refusal.specs.declared.Verdict.{Verdict}
-use Rattle.refusal.specs.declared.Verdict.TheVariants.{Refused}
+use Rattle.refusal.specs.Numbers.{number_of}
+use Rattle.refusal.proofs.Numbers.{number_injective}
+use Rattle.std.specs.Prelude.{Err, Ok}
 
 -- A row has one lowest place.
 pub lowest_unique : {a : Ask} {x y : ℕ} → Lowest a x → Lowest a y → x ≡ y
@@ -37,16 +38,17 @@ kept_none (a ∷ rows) k x p (inr q) = kept_none rows k x p.1 q.1
 -- One refusal is given,
 pub given_unique : {rows : List Ask} {r s : Refusal} → Given rows r → Given rows s → r ≡ s
 given_unique {rows} {r} {s} p q =
-    let e = first_unique rows r.number s.number r.place s.place p.first q.first in
-    λ i. record { number = e.0 i; place = e.1 i }
+    let e = first_unique rows (number_of r.reason) (number_of s.reason) r.place s.place p.first q.first in
+    let f = number_injective e.0 in
+    λ i. record { reason = f i; place = e.1 i }
 
 -- and none where all are kept.
 pub sound_not_given : {rows : List Ask} {r : Refusal} → Sound rows → Given rows r → ⊥
-sound_not_given {rows} {r} p q = kept_none rows r.number r.place p.kept q.first
+sound_not_given {rows} {r} p q = kept_none rows (number_of r.reason) r.place p.kept q.first
 
 -- So the verdict is one.
 pub verdict_determined : {rows : List Ask} {v w : Verdict} → Judged rows v → Judged rows w → v ≡ w
 verdict_determined (sound p) (sound q) = refl
 verdict_determined (sound p) (given q) = absurd (sound_not_given p q)
 verdict_determined (given p) (sound q) = absurd (sound_not_given q p)
-verdict_determined (given p) (given q) = ap (λ r. Refused r) (given_unique p q)
+verdict_determined (given p) (given q) = ap (λ r. Err r) (given_unique p q)

@@ -1,3 +1,4 @@
+pub mod Numbers
 pub mod Determined
 pub mod Asked
 pub mod Answers

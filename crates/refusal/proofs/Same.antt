@@ -3,11 +3,10 @@ use Prim.Native.Nat.{ℕ}
 use mathlib.Core.Path.{◌≡◌, sym, ◌∙◌, refl}
 use mathlib.Core.Logic.{inl, inr}
 use mathlib.Core.List.{List, [], ◌∷◌}
-use Rattle.refusal.specs.Asking.{AllKept, Ask, FirstBroken, Given, Judged, Kept, Lowest, Sound, asked, given, sound}
+use Rattle.refusal.specs.Asking.{AllKept, Ask, FirstBroken, Given, Judged, Kept, Lowest, Sound, asked, given, sound, Verdict}
 use Rattle.refusal.specs.declared.Refusal.{Refusal}
-use Rattle.refusal.specs.declared.Verdict.{Verdict}
-use Rattle.refusal.specs.declared.Found.{Found}
-use Rattle.refusal.specs.declared.Found.TheVariants.{At, Nothing}
+use Rattle.refusal.specs.Numbers.{number_of}
+use Rattle.std.specs.Prelude.{None, Option, Some}
 use Rattle.refusal.specs.helpers.Answers.{Finds}
 
 -- The two rows have one number, the same places, and the same rule at each.
@@ -41,9 +40,9 @@ module _ {a b : Ask} (s : SameAsk a b) where
         lower = λ y l p. let q = s.back y p in s.up y q (h.lower y l q);
       }
 
-  pub finds_same : (r : Found) → Finds a r → Finds b r
-  finds_same (At x) h = lowest_same x h
-  finds_same Nothing h = kept_same h
+  pub finds_same : (r : Option ℕ) → Finds a r → Finds b r
+  finds_same (Some x) h = lowest_same x h
+  finds_same None h = kept_same h
 
 all_same : (xs ys : List Ask) → SameRows xs ys → AllKept xs → AllKept ys
 all_same [] [] s h = tt
@@ -62,7 +61,7 @@ module _ (xs ys : List Ask) (s : SameRows xs ys) where
   sound_same h = record { kept = all_same xs ys s h.kept }
 
   pub given_same : {r : Refusal} → Given xs r → Given ys r
-  given_same {r} h = record { first = first_same xs ys r.number r.place s h.first }
+  given_same {r} h = record { first = first_same xs ys (number_of r.reason) r.place s h.first }
 
   pub judged_same : {v : Verdict} → Judged xs v → Judged ys v
   judged_same (sound h) = sound (sound_same h)

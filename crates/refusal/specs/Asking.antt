@@ -1,9 +1,8 @@
 -- What a list of refusals means. Rows are asked in order; each has its number, and asks a rule of each of its places.
 -- The first row that is broken is given, at its lowest place.
-use Rattle.std.specs.Prelude.{ℕ, ◌<◌, ◌≡◌, ◌⊎◌, List, [], ◌∷◌}
+use Rattle.std.specs.Prelude.{ℕ, ◌<◌, ◌≡◌, ◌⊎◌, List, [], ◌∷◌, Result, Ok, Err, ⊤}
+use Rattle.refusal.specs.Numbers.{number_of}
 use Rattle.refusal.specs.declared.Refusal.{Refusal}
-use Rattle.refusal.specs.declared.Verdict.{Verdict}
-use Rattle.refusal.specs.declared.Verdict.TheVariants.{Accepted, Refused}
 
 -- A row: its number, and a rule of each place of a kind.
 pub record Ask : Type 1 where
@@ -45,9 +44,13 @@ pub record Sound (rows : List Ask) : Type 0 where
 
 -- The refusal r is given.
 pub record Given (rows : List Ask) (r : Refusal) : Type 0 where
-  pub first : FirstBroken rows r.number r.place
+  pub first : FirstBroken rows (number_of r.reason) r.place
+
+-- Accepted, or refused.
+abbrev pub Verdict : Type 0
+Verdict = Result ⊤ Refusal
 
 -- The verdict of the rows: accepted where all are kept, else the refusal that is given.
 pub data Judged (rows : List Ask) : Verdict → Type 0 where
-  sound : Sound rows → Judged rows Accepted
-  given : {r : Refusal} → Given rows r → Judged rows (Refused r)
+  sound : Sound rows → Judged rows (Ok tt)
+  given : {r : Refusal} → Given rows r → Judged rows (Err r)

@@ -1,3 +1,3 @@
 pub mod Asking
-pub mod None
+pub mod Numbers
 pub mod helpers

@@ -1,58 +1,52 @@
-// Refusals: rows asked in order, each carrying its number, and what tests and searches of a row answer. Lowest of all crates.
+// Refusals: why a call refuses and where, rows asked in order, and what tests and searches of a row answer. Lowest of all crates.
 #![tactic(auto)]
 
 ghost use Rattle.std.specs.Prelude.{◌≡◌, ◌<◌};
-ghost use Rattle.refusal.specs.declared.Verdict.TheVariants.{Refused};
-ghost use Rattle.refusal.specs.None.{no_refusal, refusal_of};
+ghost use Rattle.refusal.specs.Numbers.{number_of};
 
-// The number of the rule that is broken, and the place that it reports.
-#[derive(Clone, Copy)]
+// Why: the rows of the refusal table, each with its number there.
+#[derive(Clone, Copy, PartialEq, Eq)]
+pub enum Reason {
+    Length = 1,
+    Trailer = 2,
+    Counts = 3,
+    Tables = 4,
+    Time = 5,
+    Edge = 6,
+    Loose = 7,
+    Apart = 8,
+    Dead = 9,
+    Marking = 10,
+    Unreached = 11,
+    Transition = 12,
+    Disabled = 13,
+    Room = 14,
+}
+
+// The rule that is broken, and the place that it reports.
+#[derive(Clone, Copy, PartialEq, Eq)]
 pub struct Refusal {
-    pub number: u8,
+    pub reason: Reason,
     pub place: u16,
 }
 
 // Whether all rules are kept; if not, the refusal.
-#[derive(Clone, Copy)]
-pub enum Verdict {
-    Accepted,
-    Refused(Refusal),
-}
+pub type Verdict = Result<(), Refusal>;
 
-// What a search found: the lowest such place, or none.
-#[derive(Clone, Copy)]
-pub enum Found {
-    At(usize),
-    Nothing,
-}
-
-// The refusal by a number, at a place.
-pub fn refuse(number: u8, place: usize) -> Verdict
-    requires { place < 65536 }
-    ensures { result ≡ Refused (record { number = number; place = place }) }
+// The number of a reason in the table.
+pub fn number(reason: Reason) -> u8
+    ensures { result ≡ number_of reason }
 {
-    Verdict::Refused(Refusal {
-        number: number,
-        place: place as u16,
-    })
+    reason as u8
 }
 
-// Nothing is refused.
-pub fn none() -> Refusal
-    ensures { result ≡ no_refusal }
+// The refusal for a reason, at a place.
+pub fn refuse(reason: Reason, place: usize) -> Refusal
+    requires { place < 65536 }
+    ensures { result ≡ record { reason = reason; place = place } }
 {
     Refusal {
-        number: 0,
-        place: 0,
-    }
-}
-
-// The refusal of a verdict.
-pub fn refusal_of(v: Verdict) -> Refusal
-    ensures { result ≡ refusal_of v }
-{
-    match v {
-        Verdict::Accepted => none(),
-        Verdict::Refused(refusal) => refusal,
+        reason,
+        place: place as u16,
     }
 }

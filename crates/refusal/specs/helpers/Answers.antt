@@ -1,8 +1,6 @@
 -- What the test of a rule and the search of a row answer.
-use Rattle.std.specs.Prelude.{Bool, false, true}
+use Rattle.std.specs.Prelude.{Bool, false, true, ℕ, Option, Some, None}
 use Rattle.refusal.specs.Asking.{Ask, Kept, Lowest}
-use Rattle.refusal.specs.declared.Found.{Found}
-use Rattle.refusal.specs.declared.Found.TheVariants.{At, Nothing}
 
 -- The answer of a test: true where P holds, false where it does not.
 pub data Says (P : Type 0) : Bool → Type 0 where
@@ -10,6 +8,6 @@ pub data Says (P : Type 0) : Bool → Type 0 where
   fails : (P → ⊥) → Says P false
 
 -- A search finds the lowest place at which a row is broken, or that it is kept.
-abbrev pub Finds : Ask → Found → Type 0
-Finds a (At x) = Lowest a x
-Finds a Nothing = Kept a
+abbrev pub Finds : Ask → Option ℕ → Type 0
+Finds a (Some x) = Lowest a x
+Finds a None = Kept a
