@@ -1,4 +1,6 @@
 -- Words between functions beneath the calls; no promise needs them.
 pub mod Lent
+pub mod Wirings
+pub mod Tables
 pub mod Work
 pub mod Distance

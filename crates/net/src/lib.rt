@@ -2,6 +2,8 @@
 #![tactic(auto)]
 
 pub mod ends;
+pub mod rows;
+pub mod wiring;
 
 // The fewest and the most operations and edges: arrays have room for the most.
 pub const FEWEST_OPERATIONS: usize = 1;
