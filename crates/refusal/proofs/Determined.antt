@@ -9,7 +9,7 @@ use Rattle.refusal.specs.Asking.{AllKept, Ask, FirstBroken, Given, Judged, Lowes
 use Rattle.refusal.specs.declared.Refusal.{Refusal}
 use Rattle.refusal.specs.Numbers.{number_of}
 use Rattle.refusal.proofs.Numbers.{number_injective}
-use Rattle.std.specs.Prelude.{Err, Ok}
+use Rattle.std.specs.Prelude.{Err}
 
 -- A row has one lowest place.
 pub lowest_unique : {a : Ask} {x y : ℕ} → Lowest a x → Lowest a y → x ≡ y
