@@ -1,4 +1,4 @@
--- Demand 3 leaves no freedom: one number meets it, and it is found at every marking that a live one reaches.
+-- The three sentences of the wait leave no freedom: one number meets them, and it is found at every marking that a live one reaches.
 use mathlib.Core.Path.{◌≡◌, refl, sym}
 use mathlib.Core.List.{List, [], ◌++◌, ◌∷◌}
 use Prim.Native.Nat.{◌*◌, ◌<◌, ◌≤◌, suc, zero, ℕ}
@@ -22,7 +22,7 @@ use Rattle.marked.proofs.Sizes.{walk_most}
 use Rattle.marked.proofs.Walks.{froms_in, length_froms}
 use Rattle.marked.proofs.Wait.{others_all, wait_demand}
 
--- Demand 3 at every marking that a live one reaches.
+-- The three sentences of the wait at every marking that a live one reaches.
 pub wait_reached : {g : Net} {m n : ℕ → ℕ} {t w : ℕ} → Proper g → Live g m → Reaches g m n → WaitSum g n t w → Demand3 g n t w
 wait_reached ok live r s = wait_demand ok ((live_fires r.fires).0 live) s
 
@@ -69,7 +69,7 @@ run {g} {t} x (suc k) h =
 no_longer : {g : Net} {m : ℕ → ℕ} {t w v : ℕ} → Demand3 g m t w → Demand3 g m t v → w ≤ v
 no_longer {w} x y = let r = run x w (omega arith) in omega (arith, y.most r.end r.list r.fires r.none, r.size)
 
--- Two numbers that meet demand 3 are the same.
+-- Two numbers that meet the three sentences are the same.
 pub waits_unique : {g : Net} {m : ℕ → ℕ} {t w v : ℕ} → Demand3 g m t w → Demand3 g m t v → w ≡ v
 waits_unique x y = omega (arith, no_longer x y, no_longer y x)
 

@@ -1,4 +1,4 @@
--- Document 01's P1 written out, as a check that the definitions compute: its largest time per token is 5 / 1, and the wait for its sink is 8.
+-- The worked graph P1 written out, as a check that the definitions compute: its largest time per token is 5 / 1, and the wait for its sink is 8.
 use mathlib.Core.Path.{refl}
 use mathlib.Core.List.{List, [], ◌∷◌}
 use Prim.Native.Nat.{ℕ}

@@ -1,4 +1,4 @@
--- The limits of a graph (document 01, "What a graph is here"), by name: what the refusals test.
+-- The limits of a graph, by name: what the refusals test.
 use Rattle.std.specs.Prelude.{ℕ, ◌≤◌}
 
 -- n lies from low to high.

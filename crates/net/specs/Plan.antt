@@ -1,4 +1,4 @@
--- A graph as numbers, from wherever they are read: what document 01 says of operations, edges and nodes.
+-- A graph as numbers, from wherever they are read: what is said of operations, edges and nodes.
 use Rattle.std.specs.Prelude.{◌≡◌, List, [], ◌-◌, ◌<◌, ℕ}
 use Rattle.marked.specs.Net.{at}
 use Rattle.net.specs.Limits.{Within}

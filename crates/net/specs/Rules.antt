@@ -1,4 +1,4 @@
--- Rows 5 to 9 of the refusal table (document 01, "Calls and refusals"), each with one definition:
+-- Rows 5 to 9 of the refusal table, each with one definition:
 -- what must hold of each operation, edge, node or transition of a plan.
 use Rattle.std.specs.Prelude.{ℕ, ◌+◌, ◌≤◌, ◌<◌, ◌≡◌, List, [], ◌∷◌}
 use Rattle.refusal.specs.Asking.{Ask, asked_of}

@@ -1,4 +1,4 @@
-// The computational graph of document 01, over the operation count and the rows of the edges.
+// The computational graph, over the operation count and the rows of the edges.
 #![tactic(auto)]
 
 pub mod ends;
