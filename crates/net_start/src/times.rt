@@ -11,9 +11,7 @@ pub fn transition_times(n: usize, times: &[u32; OPERATIONS], out: &mut [u32; TRA
     ensures { Timed n times.now out.new }
 {
     *out = [0; TRANSITIONS];
-    let mut i = 0;
-    while i < n {
+    for i in 0..n {
         out[3 * i + 2] = times[i];
-        i += 1;
     }
 }

@@ -15,7 +15,7 @@ use net::{EDGES, NODES, OPERATIONS};
 pub fn node(v: u8) -> usize
     ensures { result ≡ v }
 {
-    v as usize
+    usize::from(v)
 }
 
 // The time of node v: an operation's own, and none for the source and the sink.
@@ -89,10 +89,8 @@ fn sweep(
         finish.old finish.new result }
 {
     let mut changed = false;
-    let mut k = 0;
-    while k < e {
+    for k in 0..e {
         changed = raise(n, e, k, times, from, to, mark, buffers, finish, changed);
-        k += 1;
     }
     changed
 }

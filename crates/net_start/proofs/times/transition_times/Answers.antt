@@ -4,10 +4,10 @@ use native.Mathlib.Omega.{arith}
 use Rattle.net_start.proofs.times.transition_times.Goals as goal
 
 pub loop-i-init : goal.loop-i-init
-loop-i-init c = (omega arith, timed_none c.args.times.now)
+loop-i-init c = timed_none c.args.times.now
 
 pub loop-i-preserved : goal.loop-i-preserved
-loop-i-preserved c = (omega arith, timed_on (omega arith) c.loop-i.invariant.1)
+loop-i-preserved c = timed_on (omega arith) c.loop-i.invariant
 
 pub returns : goal.returns
-returns c = record { each = λ t h. c.loop-i.invariant.1.each t (omega arith) }
+returns c = record { each = λ t h. c.loop-i.invariant.each t (omega arith) }

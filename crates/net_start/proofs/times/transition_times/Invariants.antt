@@ -1,10 +1,6 @@
 -- The invariant: the transitions before row i's process have their times.
 use Rattle.net_start.proofs.Timing.{TimedTo}
-use Prim.Native.Nat.{◌-◌, ◌≤◌}
 use Rattle.net_start.proofs.times.transition_times.Given as goal
 
 abbrev pub invariant-loop-i : goal.invariant-loop-i
-invariant-loop-i l = (l.i ≤ l.n) × TimedTo l.times l.i l.out
-
-abbrev pub decreases-loop-i : goal.decreases-loop-i
-decreases-loop-i l = l.n - l.i
+invariant-loop-i l = TimedTo l.times l.i l.out
