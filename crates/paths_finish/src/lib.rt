@@ -11,25 +11,12 @@ ghost use Rattle.paths_finish.specs.helpers.Finishing.{AllDone, Backed, EdgesSwe
 
 use net::{EDGES, NODES, OPERATIONS};
 
-// The number of a node, from a row.
-pub fn node(v: u8) -> usize
-    ensures { result ≡ v }
-{
-    usize::from(v)
-}
-
 // The time of node v: an operation's own, and none for the source and the sink.
 fn node_time(n: usize, times: &[u32; OPERATIONS], v: usize) -> u32
     requires { n ≤ most_operations }
     ensures { result ≡ node_time n (time_at times.now) v }
 {
-    if 0 < v {
-        if v <= n {
-            return times[v - 1];
-        }
-        return 0;
-    }
-    0
+    if 0 < v && v <= n { times[v - 1] } else { 0 }
 }
 
 // Raises node v's entry to x where it is lower. The answer is whether an entry has changed, now or before.
@@ -39,9 +26,10 @@ fn lift(finish: &mut [u32; NODES], v: usize, x: u32, changed: bool) -> bool
 {
     if finish[v] < x {
         finish[v] = x;
-        return true;
+        true
+    } else {
+        changed
     }
-    changed
 }
 
 // Raises the target of edge k to what the edge offers: an unmarked edge waits for its origin, a marked one starts with its data.
@@ -63,14 +51,10 @@ fn raise(
         (done_by n times.now from.now to.now mark.now finish.old k) changed
         finish.new result }
 {
-    let b = node(to[k]);
+    let b = usize::from(to[k]);
     let own = node_time(n, times, b);
-    if mark[k] == 0 {
-        let a = node(from[k]);
-        let x = finish[a] + own;
-        return lift(finish, b, x, changed);
-    }
-    lift(finish, b, own, changed)
+    let x = if mark[k] == 0 { finish[usize::from(from[k])] + own } else { own };
+    lift(finish, b, x, changed)
 }
 
 // Every edge once.

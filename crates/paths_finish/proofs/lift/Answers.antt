@@ -6,5 +6,5 @@ use Rattle.paths_finish.proofs.lift.Goals as goal
 pub returns-then-finish-v : goal.returns-then-finish-v
 returns-then-finish-v c = lifted (omega arith)
 
-pub returns : goal.returns
-returns c = kept (omega arith)
+pub returns-else-finish-v : goal.returns-else-finish-v
+returns-else-finish-v c = kept (omega arith)
