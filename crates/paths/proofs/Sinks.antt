@@ -2,8 +2,8 @@
 use mathlib.Core.Path.{◌≡◌, ◌∙◌, ap, refl, subst, sym}
 use mathlib.Core.Logic.{⊎_elim, inl, inr}
 use mathlib.Core.List.{List, [], ◌++◌, ◌∷◌}
-use Prim.Native.Nat.{◌+◌, ◌≤◌, ℕ}
-use native.Mathlib.Decide.{ℕ_discrete}
+use Prim.Native.Nat.{◌+◌, ◌≤◌, max, ℕ}
+use native.Mathlib.Decide.{dec_lt, ℕ_discrete}
 use native.Mathlib.Omega.{arith}
 use Rattle.marked.specs.Sums.{sum}
 use Rattle.marked.specs.Net.{at}
@@ -12,7 +12,7 @@ use Rattle.net.specs.Plan.{Plan, rows, time_at}
 use Rattle.paths_finish.specs.Modified.{Link, Path, begins, ends, go, node_time, path_time, stays, stop}
 use Rattle.paths_finish.specs.Longest.{Sink, TT}
 use Rattle.paths_finish.specs.helpers.Finishing.{Finished}
-use Rattle.paths.specs.helpers.Latest.{Later, Latest}
+use Rattle.paths.specs.helpers.Latest.{Latest}
 use Rattle.paths_finish.proofs.Links.{sink_ends, then, time_sink}
 use Rattle.paths_finish.proofs.Passing.{Passing}
 
@@ -23,19 +23,27 @@ module _ {n : ℕ} {from mark d : List ℕ} where
   pub latest_to : {k m r : ℕ} → k ≡ m → Latest n from mark d k r → Latest n from mark d m r
   latest_to i l = rw i at l
 
-  -- One edge more, from node a.
-  pub latest_more : {a k r s : ℕ} → Latest n from mark d k r → a ≡ at from k → Later r (at mark k) (at d a) s → Latest n from mark d (k + 1) s
-  latest_more {k} l ea m =
+  -- One edge more, without a mark,
+  pub latest_unmarked : {k r : ℕ} → Latest n from mark d k r → at mark k ≡ 0 → Latest n from mark d (k + 1) r
+  latest_unmarked {k} l none =
       record {
-        sink = omega (arith, l.sink, m.first);
-        fresh = λ j h marked. elim (ℕ_discrete j k) [
-          | yes z ↦ rw z (omega (arith, m.other (rw z at marked), ap (at d) ea))
-          | no z ↦ omega (arith, l.fresh j (omega arith) marked, m.first)
+        sink = l.sink;
+        fresh = λ j h marked. l.fresh j (elim (ℕ_discrete j k) [ yes z ↦ absurd (omega (arith, rw z at marked)) | no z ↦ omega arith ]) marked;
+        is = ⊎_elim (λ o. inl o) (λ o. inr (o.0, omega (arith, o.1), o.2, o.3)) l.is;
+      }
+
+  -- or with one, from node a.
+  pub latest_marked : {a k r : ℕ} → Latest n from mark d k r → 1 ≤ at mark k → a ≡ at from k → Latest n from mark d (k + 1) (max r (at d a))
+  latest_marked {a} {k} {r} l some ea =
+      record {
+        sink = omega (arith, l.sink);
+        fresh = λ j h marked. elim (ℕ_discrete j k) [ yes z ↦ rw z (omega (arith, ap (at d) ea)) | no z ↦ omega (arith, l.fresh j (omega arith) marked) ];
+        is = elim (dec_lt r (at d a)) [
+          | yes h ↦ inr (k, omega arith, some, omega (arith, ap (at d) ea))
+          | no h ↦
+              let kept : max r (at d a) ≡ r = omega arith in
+              ⊎_elim (λ o. inl (kept ∙ o)) (λ o. inr (o.0, omega (arith, o.1), o.2, kept ∙ o.3)) l.is
         ];
-        is = ⊎_elim
-            (λ i. ⊎_elim (λ o. inl (i ∙ o)) (λ o. inr (o.0, omega (arith, o.1), o.2, i ∙ o.3)) l.is)
-            (λ i. inr (k, omega arith, i.0, i.1 ∙ ap (at d) ea))
-            m.is;
       }
 
 module _

@@ -8,10 +8,10 @@ ghost use Rattle.net.specs.Plan.{time_at};
 ghost use Rattle.net.specs.Limits.{longest_time, most_edges, most_operations};
 ghost use Rattle.net.specs.Good.{Good};
 ghost use Rattle.paths.specs.helpers.Answers.{SumsOf};
-ghost use Rattle.paths.specs.helpers.Latest.{Later, Latest};
+ghost use Rattle.paths.specs.helpers.Latest.{Latest};
 
 use net::{EDGES, NODES, OPERATIONS};
-use paths_finish::{finishes, node};
+use paths_finish::finishes;
 
 // A path's sum is at most 40,000,000, and would be at most 120,000,000 with three times an operation: u32 has the room.
 #[derive(Clone, Copy)]
@@ -21,30 +21,16 @@ pub struct Sums {
     pub tce: u32,
 }
 
-// The larger of the two where there is a mark, else the first.
-fn later(most: u32, mark: u8, x: u32) -> u32
-    ensures { Later most mark x result }
-{
-    if mark == 0 {
-        return most;
-    }
-    if most < x {
-        return x;
-    }
-    most
-}
-
 // The last sink to be reached: the data sink, or the fresh sink behind the origin of a marked edge.
 fn latest(n: usize, e: usize, from: &[u8; EDGES], mark: &[u8; EDGES], finish: &[u32; NODES]) -> u32
     requires { (n ≤ most_operations) × (e ≤ most_edges) × ((k : ℕ) → k < e → at from.now k ≤ n) }
     ensures { Latest n from.now mark.now finish.now e result }
 {
     let mut most = finish[n + 1];
-    let mut k = 0;
-    while k < e {
-        let a = node(from[k]);
-        most = later(most, mark[k], finish[a]);
-        k += 1;
+    for k in 0..e {
+        if mark[k] != 0 {
+            most = most.max(finish[usize::from(from[k])]);
+        }
     }
     most
 }
@@ -54,13 +40,7 @@ fn all_times(n: usize, times: &[u32; OPERATIONS]) -> u32
     requires { (n ≤ most_operations) × ((i : ℕ) → 1 ≤ i → i ≤ n → time_at times.now i ≤ longest_time) }
     ensures { result ≡ upto (λ (i : ℕ). time_at times.now (i + 1)) n }
 {
-    let mut sum = 0;
-    let mut i = 0;
-    while i < n {
-        sum += times[i];
-        i += 1;
-    }
-    sum
+    times[..n].iter().sum()
 }
 
 // TBIO is when the data sink is reached, TT when the last sink is, and TCE the sum of all times.

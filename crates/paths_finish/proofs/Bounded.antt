@@ -4,7 +4,9 @@ use mathlib.Core.List.{List, [], ◌∷◌}
 use Prim.Native.Nat.{◌*◌, ◌+◌, ◌-◌, ◌≤◌, suc, zero, ℕ}
 use native.Mathlib.Numerals.{add-one}
 use native.Mathlib.Omega.{arith}
-use lib.ListN.{length}
+use lib.ListN.{length, take}
+use Rattle.std.specs.List.{sum_by}
+use Rattle.std.proofs.lemmas.List.Sums.{sum_by_more}
 use Rattle.marked.specs.Sums.{sum, total, upto}
 use Rattle.marked.specs.Net.{at}
 use Rattle.marked.proofs.Tallies.{upto_most}
@@ -14,14 +16,13 @@ use Rattle.paths_finish.specs.helpers.Finishing.{Backed, PathTo}
 use Rattle.paths_finish.proofs.Distinct.{path_effort}
 use Rattle.paths_finish.proofs.Passing.{Passing, good_passing}
 
--- The times of the operations, one by one as they are added up.
-pub times_none : (f : ℕ → ℕ) → upto f 0 ≡ 0
+-- The times of the operations are the first entries.
+pub times_sum : (times : List ℕ) (n : ℕ) → n ≤ length times → sum_by (λ (x : ℕ). x) (take n times) ≡ upto (λ (i : ℕ). time_at times (i + 1)) n
 unfolding upto
-times_none f = refl
-
-pub times_more : (times : List ℕ) (i : ℕ) → upto (λ (j : ℕ). time_at times (j + 1)) (i + 1) ≡ upto (λ (j : ℕ). time_at times (j + 1)) i + at times i
-unfolding upto
-times_more times i = let same : i + 1 - 1 ≡ i = omega arith in rw add-one (omega (arith, ap (at times) same))
+times_sum times zero h = refl
+times_sum times (suc n) h =
+    let same : n + 1 - 1 ≡ n = omega arith in
+    rw (← add-one n) (omega (arith, sum_by_more (λ (x : ℕ). x) times n 0 h, times_sum times n (omega arith), ap (at times) same))
 
 pub times_most : (f : ℕ → ℕ) (m n : ℕ) → ((i : ℕ) → 1 ≤ i → i ≤ n → f i ≤ m) → upto (λ (i : ℕ). f (i + 1)) n ≤ n * m
 times_most f m n h = upto_most (λ (i : ℕ). f (i + 1)) m n (λ i l. h (i + 1) (omega arith) (omega arith))

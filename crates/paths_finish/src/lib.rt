@@ -53,7 +53,11 @@ fn raise(
 {
     let b = usize::from(to[k]);
     let own = node_time(n, times, b);
-    let x = if mark[k] == 0 { finish[usize::from(from[k])] + own } else { own };
+    let x = if mark[k] == 0 {
+        finish[usize::from(from[k])] + own
+    } else {
+        own
+    };
     lift(finish, b, x, changed)
 }
 

@@ -2,12 +2,6 @@
 use Rattle.std.specs.Prelude.{◌≡◌, ◌⊎◌, List, ◌+◌, ◌<◌, ◌≤◌, ℕ}
 use Rattle.marked.specs.Net.{at}
 
--- r is the larger of the two, or the first where there is no mark.
-pub record Later (most mark x r : ℕ) : Type 0 where
-  pub first : most ≤ r
-  pub other : 1 ≤ mark → x ≤ r
-  pub is : (r ≡ most) ⊎ ((1 ≤ mark) × (r ≡ x))
-
 -- r is the largest entry of the data sink and of the origins of the marked edges among the first k.
 pub record Latest (n : ℕ) (from mark finish : List ℕ) (k r : ℕ) : Type 0 where
   pub sink : at finish (n + 1) ≤ r
