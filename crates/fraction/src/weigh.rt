@@ -8,7 +8,7 @@ pub fn gained(b: u64, time: u32) -> u64
     requires { (b ≤ most_held) × (time ≤ longest_time) }
     ensures { (result ≡ b * time) × (result ≤ most_time) }
 {
-    b * (time as u64)
+    b * u64::from(time)
 }
 
 // What a pays for tokens.
@@ -16,5 +16,5 @@ pub fn paid(a: u64, tokens: u8) -> u64
     requires { (a ≤ most_time) × (tokens ≤ most_tokens) }
     ensures { (result ≡ a * tokens) × (result ≤ most_cost) }
 {
-    a * (tokens as u64)
+    a * u64::from(tokens)
 }

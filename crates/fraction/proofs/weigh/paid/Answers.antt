@@ -4,7 +4,7 @@ use native.Mathlib.Omega.{arith}
 use Rattle.fraction.proofs.weigh.paid.Goals as goal
 
 pub overflow_mul-result : goal.overflow_mul-result
-overflow_mul-result c = omega (arith, mul-le-mul c.requires.0 c.requires.1)
+overflow_mul-result c = rw c.from.ensures (omega (arith, mul-le-mul c.requires.0 c.requires.1))
 
 pub returns : goal.returns
-returns c = omega (arith, mul-le-mul c.requires.0 c.requires.1)
+returns c = rw c.from.ensures (omega (arith, mul-le-mul c.requires.0 c.requires.1))
