@@ -8,37 +8,17 @@ ghost use Rattle.net.specs.Good.{Wired};
 ghost use Rattle.tbo_order.specs.helpers.Items.{Enlisted, Item, ItemAt, Ordered, Sorting, most_items};
 ghost use Rattle.tbo_order.specs.helpers.Orders.{PassDone, Took};
 
-use casts::byte_index;
 use net::{EDGES, OPERATIONS, PLACES, TRANSITIONS, ends};
 
 // Room for every item.
 pub const ITEMS: usize = OPERATIONS + EDGES;
-
-// One more; 255 stays.
-fn more(x: u8) -> u8 {
-    if x < 255 {
-        return x + 1;
-    }
-    x
-}
-
-// One less; 0 stays.
-fn less(x: u8) -> u8 {
-    if x > 0 {
-        return x - 1;
-    }
-    x
-}
 
 // The item of number i: the edges first, then the operations.
 fn item(n: usize, e: usize, i: usize) -> u8
     requires { (n ≤ most_operations) × (e ≤ most_edges) × (i < n + e) }
     ensures { ItemAt e i result }
 {
-    if i < e {
-        return i as u8;
-    }
-    (i - e + EDGES) as u8
+    if i < e { i as u8 } else { (i - e + EDGES) as u8 }
 }
 
 // Where the item's places without a token come from: an operation's from its read, an edge's from a write where its full place has none, else from a read.
@@ -99,13 +79,11 @@ fn enlist(
     requires left_len { length left.old ≡ most_items }
     ensures { Enlisted n e (n + e) left.new }
 {
-    let mut i = 0;
-    while i < n + e {
+    for i in 0..n + e {
         let x = item(n, e, i);
         left[i] = x;
-        let t = goal(n, e, from, to, marking, byte_index(x));
-        wait[t] = more(wait[t]);
-        i += 1;
+        let t = goal(n, e, from, to, marking, usize::from(x));
+        wait[t] = wait[t].saturating_add(1);
     }
 }
 
@@ -113,10 +91,7 @@ fn enlist(
 fn ready(force: bool, waits: u8) -> bool
     ensures { force ≡ true → result ≡ true }
 {
-    if force {
-        return true;
-    }
-    waits == 0
+    force || waits == 0
 }
 
 // How many items are kept for the next pass, and how many are in order.
@@ -148,21 +123,15 @@ fn take(
     ensures { Took n e left.new ord.new force i l m result.kept result.put }
 {
     let x = left[i];
-    let k = byte_index(x);
+    let k = usize::from(x);
     if ready(force, wait[gate(n, e, from, to, marking, k)]) {
         let t = goal(n, e, from, to, marking, k);
-        wait[t] = less(wait[t]);
+        wait[t] = wait[t].saturating_sub(1);
         ord[c] = x;
-        return Taken {
-            kept: m,
-            put: c + 1,
-        };
+        return Taken { kept: m, put: c + 1 };
     }
     left[m] = x;
-    Taken {
-        kept: m + 1,
-        put: c,
-    }
+    Taken { kept: m + 1, put: c }
 }
 
 // One pass over the l items that are left.
@@ -185,12 +154,10 @@ fn pass(
 {
     let mut m = 0;
     let mut p = c;
-    let mut i = 0;
-    while i < l {
+    for i in 0..l {
         let s = take(n, e, from, to, marking, force, i, l, m, p, wait, left, ord);
         m = s.kept;
         p = s.put;
-        i += 1;
     }
     Taken { kept: m, put: p }
 }
@@ -217,14 +184,13 @@ pub fn order(
         let s = pass(
             n, e, from, to, marking, false, l, c, &mut wait, &mut left, ord,
         );
-        let kept = s.kept;
         c = s.put;
-        if kept == l {
+        if s.kept == l {
             pass(
                 n, e, from, to, marking, true, l, c, &mut wait, &mut left, ord,
             );
             return;
         }
-        l = kept;
+        l = s.kept;
     }
 }

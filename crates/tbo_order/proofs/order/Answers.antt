@@ -17,10 +17,10 @@ pub pass-s-requires : goal.pass-s-requires
 pass-s-requires c = record { wired = c.requires.wired; sorting = c.loop-l.invariant }
 
 pub pass-requires : goal.pass-requires
-pass-requires c = record { wired = c.requires.wired; sorting = sort_left c.if-kept-l.true c.pass-s.ensures.sorting }
+pass-requires c = record { wired = c.requires.wired; sorting = sort_left c.if-s-l.true c.pass-s.ensures.sorting }
 
-pub returns-then-kept-l : goal.returns-then-kept-l
-returns-then-kept-l c = sort_end c.pass.ensures.sorting (c.pass.ensures.forced refl)
+pub returns-then-s-l : goal.returns-then-s-l
+returns-then-s-l c = sort_end c.pass.ensures.sorting (c.pass.ensures.forced refl)
 
 pub loop-l-smaller : goal.loop-l-smaller
 loop-l-smaller c = omega (arith, c.pass-s.ensures.fewer)

@@ -10,9 +10,6 @@ loop-i-init c = (c.requires.sorting, λ z. refl)
 pub take-s-requires : goal.take-s-requires
 take-s-requires c = record { wired = c.requires.wired; i_lt_l = omega arith; sorting = c.loop-i.invariant.0 }
 
-pub overflow_add-i : goal.overflow_add-i
-overflow_add-i c = omega (arith, c.requires.wired.operations, c.requires.wired.edges, c.loop-i.invariant.0.most)
-
 pub loop-i-preserved : goal.loop-i-preserved
 loop-i-preserved c = (c.take-s.ensures.sorting, λ z. c.take-s.ensures.forced z ∙ c.loop-i.invariant.1 z)
 

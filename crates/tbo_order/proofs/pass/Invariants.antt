@@ -1,5 +1,4 @@
 -- The invariant: the pass stands at i.
-use Prim.Native.Nat.{◌-◌}
 use mathlib.Core.Path.{◌≡◌}
 use mathlib.Core.Bool.{true}
 use Rattle.tbo_order.specs.helpers.Items.{Sorting}
@@ -7,6 +6,3 @@ use Rattle.tbo_order.proofs.pass.Given as goal
 
 abbrev pub invariant-loop-i : goal.invariant-loop-i
 invariant-loop-i l = Sorting l.n l.e l.left l.ord l.i l.l l.m l.p × (l.force ≡ true → l.m ≡ 0)
-
-abbrev pub decreases-loop-i : goal.decreases-loop-i
-decreases-loop-i l = l.l - l.i

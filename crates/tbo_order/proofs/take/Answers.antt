@@ -12,11 +12,11 @@ bounds-left-i c =
 
 pub gate-requires : goal.gate-requires
 gate-requires c =
-    let item = sort_item c.requires.sorting c.requires.wired.operations c.requires.wired.edges c.requires.i_lt_l in record { wired = c.requires.wired; item = subst (Item c.args.n c.args.e) (sym c.byte_index-k.ensures.0) item }
+    let item = sort_item c.requires.sorting c.requires.wired.operations c.requires.wired.edges c.requires.i_lt_l in record { wired = c.requires.wired; item = subst (Item c.args.n c.args.e) (sym c.from-k.ensures) item }
 
 pub goal-t-requires : goal.goal-t-requires
 goal-t-requires c =
-    let item = sort_item c.requires.sorting c.requires.wired.operations c.requires.wired.edges c.requires.i_lt_l in record { wired = c.requires.wired; item = subst (Item c.args.n c.args.e) (sym c.byte_index-k.ensures.0) item }
+    let item = sort_item c.requires.sorting c.requires.wired.operations c.requires.wired.edges c.requires.i_lt_l in record { wired = c.requires.wired; item = subst (Item c.args.n c.args.e) (sym c.from-k.ensures) item }
 
 pub returns-then-ready : goal.returns-then-ready
 returns-then-ready c =
