@@ -9,7 +9,6 @@ ghost use Rattle.tbo_order.specs.helpers.Items.{Item, Ordered};
 ghost use Rattle.tbo_sweep.specs.helpers.Places.{Between, Every, Of};
 ghost use Rattle.tbo_sweep.specs.helpers.Raises.{Raised, Room, SweptArrays};
 
-use casts::byte_index;
 use fraction::weigh;
 use net::{EDGES, PLACES, TRANSITIONS, ends};
 use tbo_order::ITEMS;
@@ -165,12 +164,11 @@ pub fn sweep(
         pred.new most_transitions result }
 {
     let mut last = NONE;
-    let mut j = 0;
-    while j < n + e {
+    for j in 0..n + e {
         last = raise_item(
             n,
             e,
-            byte_index(ord[j]),
+            usize::from(ord[j]),
             from,
             to,
             marking,
@@ -181,7 +179,6 @@ pub fn sweep(
             pred,
             last,
         );
-        j += 1;
     }
     last
 }

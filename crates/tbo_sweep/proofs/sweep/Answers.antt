@@ -10,31 +10,28 @@ use Rattle.tbo_sweep.proofs.Tries.{room_swept, swepts_none, swepts_then, swepts_
 use Rattle.tbo_sweep.proofs.sweep.Goals as goal
 
 pub loop-j-init : goal.loop-j-init
-loop-j-init c = (omega arith, swepts_none (λ p h. absurd (omega (arith, h.1))))
+loop-j-init c = swepts_none (λ p h. absurd (omega (arith, h.1)))
 
-pub overflow_add-n : goal.overflow_add-n
-overflow_add-n c = omega (arith, c.requires.weighted.wired.operations, c.requires.weighted.wired.edges)
+pub overflow_add-j-end : goal.overflow_add-j-end
+overflow_add-j-end c = omega (arith, c.requires.weighted.wired.operations, c.requires.weighted.wired.edges)
 
 pub bounds-ord-j : goal.bounds-ord-j
 bounds-ord-j c = omega (arith, c.requires.weighted.wired.operations, c.requires.weighted.wired.edges)
 
 pub raise_item-last-requires : goal.raise_item-last-requires
 raise_item-last-requires c =
-    let item = subst (Item c.args.n c.args.e) (sym c.byte_index.ensures.0) (c.requires.ordered.0.items c.loop-j.j (omega arith)) in
-    let room = room_swept (weighted_short c.requires.weighted) c.requires.ordered.1.down c.requires.room c.loop-j.invariant.1 in record { weighted = c.requires.weighted; item = (item, c.requires.ordered.1); room = room_more (omega (arith, c.requires.weighted.wired.operations, c.requires.weighted.wired.edges, c.loop-j.invariant.0)) room }
-
-pub overflow_add-j : goal.overflow_add-j
-overflow_add-j c = omega (arith, c.requires.weighted.wired.operations, c.requires.weighted.wired.edges)
+    let item = subst (Item c.args.n c.args.e) (sym c.from.ensures) (c.requires.ordered.0.items c.loop-j.j (omega arith)) in
+    let room = room_swept (weighted_short c.requires.weighted) c.requires.ordered.1.down c.requires.room c.loop-j.invariant in record { weighted = c.requires.weighted; item = (item, c.requires.ordered.1); room = room_more (omega (arith, c.requires.weighted.wired.operations, c.requires.weighted.wired.edges)) room }
 
 pub loop-j-preserved : goal.loop-j-preserved
 loop-j-preserved c =
-    let tried = rw c.byte_index.ensures.0 at c.raise_item-last.ensures in
-    let next = swepts_then (among_last c.args.n c.loop-j.j c.args.ord.now) c.loop-j.invariant.1 tried in
-    (omega arith, swepts_to (λ p h. h) (omega arith) next)
+    let tried = rw c.from.ensures at c.raise_item-last.ensures in
+    let next = swepts_then (among_last c.args.n c.loop-j.j c.args.ord.now) c.loop-j.invariant tried in
+    swepts_to (λ p h. h) (omega arith) next
 
 pub returns : goal.returns
 returns c =
     swepts_to
     (λ p h. subst (λ z. Among c.args.n c.args.ord.now z p) (omega arith) (all_among c.requires.weighted.wired.edges c.requires.ordered.0 p h))
-    (omega (arith, c.loop-j.invariant.0))
-    c.loop-j.invariant.1
+    (omega arith)
+    c.loop-j.invariant

@@ -1,14 +1,11 @@
 -- The invariant: the places of the first j items have been tried.
 use Rattle.fraction.specs.helpers.Loaded.{loaded}
 use Rattle.net.specs.Limits.{most_transitions}
-use Prim.Native.Nat.{◌+◌, ◌*◌, ◌-◌, ◌≤◌}
+use Prim.Native.Nat.{◌*◌}
 use Rattle.tbo_sweep.specs.helpers.Raises.{SweptArrays}
 use Rattle.tbo_sweep.specs.helpers.Places.{Among}
 use Rattle.tbo_sweep.proofs.sweep.Given as goal
 
 abbrev pub invariant-loop-j : goal.invariant-loop-j
 invariant-loop-j l =
-    (l.j ≤ l.n + l.e) × SweptArrays (loaded l.n l.e l.from l.to l.marking l.times) l.a l.b (Among l.n l.ord l.j) (3 * l.j) l.initial.d l.initial.pred l.d l.pred most_transitions l.last
-
-abbrev pub decreases-loop-j : goal.decreases-loop-j
-decreases-loop-j l = l.n + l.e - l.j
+    SweptArrays (loaded l.n l.e l.from l.to l.marking l.times) l.a l.b (Among l.n l.ord l.j) (3 * l.j) l.initial.d l.initial.pred l.d l.pred most_transitions l.last
