@@ -1,9 +1,11 @@
 -- A sweep over all items tries every place.
-use mathlib.Core.Path.{subst}
+use mathlib.Core.Path.{◌≡◌, subst, ◌∙◌}
 use mathlib.Core.Logic.{◌⊎◌, inl, inr}
 use mathlib.Core.List.{List}
 use Prim.Native.Nat.{◌*◌, ◌+◌, ◌-◌, ◌/◌, ◌<◌, ◌≤◌, ℕ}
 use native.Mathlib.Omega.{arith}
+use lib.ListN.{get_or, length, take}
+use Rattle.std.proofs.lemmas.List.{get_or-take, length-take}
 use native.Mathlib.Decide.{dec_lt, ℕ_discrete}
 use Rattle.marked.specs.Net.{at}
 use Rattle.tbo_order.specs.helpers.Items.{Ordered}
@@ -15,6 +17,10 @@ all_among {n} {e} {ord} many o p h = elim (dec_lt p (3 * n)) [
   | yes k ↦ let i = p / 3 in let r = o.all (128 + i) (inr (omega arith, omega arith)) in (r.0, r.1, rw r.2 (inr (omega arith, (omega arith, omega arith))))
   | no k ↦ let i = (p - 3 * n) / 2 in let r = o.all i (inl (omega arith)) in (r.0, r.1, rw r.2 (inl (omega arith, (omega arith, omega arith))))
 ]
+
+-- What stands at j of the first k items.
+pub handed : (ord : List ℕ) {k j r : ℕ} → j < length (take k ord) → r ≡ get_or (take k ord) j 0 → (j < k) × (r ≡ at ord j)
+handed ord {k} {j} h e = let i : j < k = omega (arith, length-take k ord) in (i, e ∙ get_or-take k ord j 0 i)
 
 -- The places of one item more.
 pub among_last : (n j : ℕ) (ord : List ℕ) (p : ℕ) → Among n ord (j + 1) p → Among n ord j p ⊎ Of n (at ord j) p

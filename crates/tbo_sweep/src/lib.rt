@@ -164,11 +164,11 @@ pub fn sweep(
         pred.new most_transitions result }
 {
     let mut last = NONE;
-    for j in 0..n + e {
+    for &x in &ord[..n + e] {
         last = raise_item(
             n,
             e,
-            usize::from(ord[j]),
+            usize::from(x),
             from,
             to,
             marking,

@@ -6,6 +6,6 @@ use Rattle.tbo_sweep.specs.helpers.Raises.{SweptArrays}
 use Rattle.tbo_sweep.specs.helpers.Places.{Among}
 use Rattle.tbo_sweep.proofs.sweep.Given as goal
 
-abbrev pub invariant-loop-j : goal.invariant-loop-j
-invariant-loop-j l =
-    SweptArrays (loaded l.n l.e l.from l.to l.marking l.times) l.a l.b (Among l.n l.ord l.j) (3 * l.j) l.initial.d l.initial.pred l.d l.pred most_transitions l.last
+abbrev pub invariant-loop-x : goal.invariant-loop-x
+invariant-loop-x l =
+    SweptArrays (loaded l.n l.e l.from l.to l.marking l.times) l.a l.b (Among l.n l.ord l.x-index) (3 * l.x-index) l.initial.d l.initial.pred l.d l.pred most_transitions l.last
