@@ -9,7 +9,6 @@ ghost use Rattle.net.specs.Good.{Wired};
 ghost use Rattle.fraction.specs.helpers.Loaded.{Weighted};
 ghost use Rattle.tbo_round.specs.helpers.Chains.{Notes, Round, Turns, back};
 
-use casts::{byte_long, quad_long, word_index};
 use net::{EDGES, PLACES, TRANSITIONS, ends};
 
 // As many steps back from v as there are transitions, each to the source of the place noted there; where none is, it stays. Whoever is on a ring of
@@ -28,14 +27,12 @@ pub fn follow(
     ensures { result ≡ back (net_of (wires n e from.now to.now)) (at pred.now) (3 * n + 2) v }
 {
     let mut w = v;
-    let mut k = 0;
-    while k < 3 * n + 2 {
-        let q = word_index(pred[w]);
+    for _ in 0..3 * n + 2 {
+        let q = usize::from(pred[w]);
         if q == 0 {
             return w;
         }
         w = ends::place_src(n, e, from, to, q - 1);
-        k += 1;
     }
     w
 }
@@ -64,18 +61,17 @@ pub fn go_round(
         (at pred.now) w result.time result.tokens }
 {
     let mut x = w;
-    let mut time: u64 = 0;
-    let mut tokens: u64 = 0;
-    // The proof that the walk comes back counts its steps.
-    let mut k: usize = 0;
-    loop {
-        let p = word_index(pred[x]) - 1;
+    let mut time = 0;
+    let mut tokens = 0;
+    for _ in 0..TRANSITIONS {
+        let p = usize::from(pred[x]) - 1;
         x = ends::place_src(n, e, from, to, p);
-        time += quad_long(times[x]);
-        tokens += byte_long(marking[p]);
-        k += 1;
+        time += u64::from(times[x]);
+        tokens += u64::from(marking[p]);
         if x == w {
             return Ring { time, tokens };
         }
     }
+    // It comes round before as many steps as there are transitions.
+    unreachable!()
 }

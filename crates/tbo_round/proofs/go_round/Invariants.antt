@@ -1,14 +1,10 @@
--- The invariant: k noted places lead from x to w, with that time and those tokens.
-use Prim.Native.Nat.{◌+◌, ◌*◌, ◌-◌}
+-- The invariant: as many noted places as there were steps lead from x to w, with that time and those tokens.
 use Rattle.marked.specs.Net.{at}
 use Rattle.net.specs.Graph.{net_of}
 use Rattle.net.specs.Plan.{wires}
 use Rattle.tbo_round.proofs.Rounds.{Going}
 use Rattle.tbo_round.proofs.go_round.Given as goal
 
-abbrev pub invariant-loop-x : goal.invariant-loop-x
-invariant-loop-x l =
-    Going (net_of (wires l.n l.e l.from l.to)) (at l.marking) (at l.times) (at l.pred) l.w l.x l.time l.tokens l.k
-
-abbrev pub decreases-loop-x : goal.decreases-loop-x
-decreases-loop-x l = 3 * l.n + 2 - l.k
+abbrev pub invariant-loop : goal.invariant-loop
+invariant-loop l =
+    Going (net_of (wires l.n l.e l.from l.to)) (at l.marking) (at l.times) (at l.pred) l.w l.x l.time l.tokens l.counter
