@@ -9,14 +9,7 @@ use tbo_order::ITEMS;
 use tbo_round::Ring;
 use tbo_sweep::NONE;
 
-// A certificate, or a closed walk that has more.
-#[derive(Clone, Copy)]
-pub enum Improvement {
-    Certified,
-    Better(Ring),
-}
-
-// Sweeps until none raises anything, or until the notes come round.
+// Sweeps until none raises anything, which certifies, or until the notes come round: a closed walk that has more.
 pub fn improve(
     n: usize,
     e: usize,
@@ -28,25 +21,23 @@ pub fn improve(
     a: u64,
     b: u64,
     d: &mut [u64; TRANSITIONS],
-) -> Improvement
+) -> Option<Ring>
     requires weighted { Weighted n e from.now to.now marking.now times.now }
     requires ordered { Ordered n e ord.now × Pair a b }
     requires level { Level lowly d.old }
     ensures { Improved (loaded n e from.now to.now marking.now times.now) a b d.new result }
 {
     let mut pred = [0u16; TRANSITIONS];
-    // The proof that the sweeps end counts them.
-    let mut k: usize = 0;
-    loop {
+    for _ in 0..TRANSITIONS + 1 {
         let v = tbo_sweep::sweep(n, e, from, to, marking, times, ord, a, b, d, &mut pred);
         if v == NONE {
-            return Improvement::Certified;
+            return None;
         }
         let w = tbo_round::follow(n, e, from, to, &pred, v);
         if pred[w] != 0 {
-            let ring = tbo_round::go_round(n, e, from, to, marking, times, &pred, w);
-            return Improvement::Better(ring);
+            return Some(tbo_round::go_round(n, e, from, to, marking, times, &pred, w));
         }
-        k += 1;
     }
+    // The notes come round after as many sweeps as there are transitions.
+    unreachable!()
 }

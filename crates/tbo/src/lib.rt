@@ -10,12 +10,9 @@ ghost use Rattle.net.specs.Limits.{most_operations};
 ghost use Rattle.net.specs.Plan.{wires};
 ghost use Rattle.net.specs.Graph.{net_of};
 ghost use Rattle.fraction.specs.helpers.Loaded.{Weighted, loaded};
-ghost use Rattle.tbo_sweep.specs.helpers.Raises.{Level};
 ghost use Rattle.tbo.specs.helpers.LargestBy.{LargestBy};
 
-use casts::{byte_long, quad_long};
 use fraction::lowest::Ratio;
-use improve::Improvement;
 use net::{EDGES, PLACES, TRANSITIONS};
 use tbo_order::ITEMS;
 
@@ -25,7 +22,7 @@ fn ring_time(times: &[u32; TRANSITIONS], i: usize) -> u64
     ensures { result ≡ at times.now (3 * i + 1) + at times.now (3 * i + 2) + at times.now (3 * i + 3) }
 {
     let p = 3 * i;
-    quad_long(times[p + 1]) + quad_long(times[p + 2]) + quad_long(times[p + 3])
+    u64::from(times[p + 1]) + u64::from(times[p + 2]) + u64::from(times[p + 3])
 }
 
 // Its tokens: the sum of those of its three places.
@@ -34,7 +31,7 @@ fn ring_tokens(marking: &[u8; PLACES], i: usize) -> u64
     ensures { result ≡ at marking.now (3 * i) + at marking.now (3 * i + 1) + at marking.now (3 * i + 2) }
 {
     let p = 3 * i;
-    byte_long(marking[p]) + byte_long(marking[p + 1]) + byte_long(marking[p + 2])
+    u64::from(marking[p]) + u64::from(marking[p + 1]) + u64::from(marking[p + 2])
 }
 
 // A row of an operation, and no more is promised of it. (It is one whose ring takes longest, which leaves little to improve.)
@@ -44,22 +41,14 @@ fn slowest(n: usize, times: &[u32; TRANSITIONS]) -> usize
 {
     let mut best = 0;
     let mut most = ring_time(times, 0);
-    let mut i = 1;
-    while i < n {
+    for i in 1..n {
         let x = ring_time(times, i);
         if most < x {
             best = i;
             most = x;
         }
-        i += 1;
     }
     best
-}
-
-fn clear(d: &mut [u64; TRANSITIONS])
-    ensures { Level 0 d.new }
-{
-    *d = [0u64; TRANSITIONS];
 }
 
 // The largest time per token of a circuit, not yet in lowest terms, with its certificate in d.
@@ -84,16 +73,12 @@ pub fn largest(
     let mut a = ring_time(times, i);
     let mut b = ring_tokens(marking, i);
     loop {
-        clear(d);
-        let f = improve::improve(n, e, from, to, marking, times, &ord, a, b, d);
-        match f {
-            Improvement::Certified => {
-                return Ratio { num: a, den: b };
-            }
-            Improvement::Better(ring) => {
-                a = ring.time;
-                b = ring.tokens;
-            }
-        }
+        d.fill(0);
+        let better = improve::improve(n, e, from, to, marking, times, &ord, a, b, d);
+        let Some(ring) = better else {
+            return Ratio { num: a, den: b };
+        };
+        a = ring.time;
+        b = ring.tokens;
     }
 }

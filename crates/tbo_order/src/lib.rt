@@ -18,7 +18,11 @@ fn item(n: usize, e: usize, i: usize) -> u8
     requires { (n ≤ most_operations) × (e ≤ most_edges) × (i < n + e) }
     ensures { ItemAt e i result }
 {
-    if i < e { i as u8 } else { (i - e + EDGES) as u8 }
+    if i < e {
+        i as u8
+    } else {
+        (i - e + EDGES) as u8
+    }
 }
 
 // Where the item's places without a token come from: an operation's from its read, an edge's from a write where its full place has none, else from a read.
@@ -128,10 +132,16 @@ fn take(
         let t = goal(n, e, from, to, marking, k);
         wait[t] = wait[t].saturating_sub(1);
         ord[c] = x;
-        return Taken { kept: m, put: c + 1 };
+        return Taken {
+            kept: m,
+            put: c + 1,
+        };
     }
     left[m] = x;
-    Taken { kept: m + 1, put: c }
+    Taken {
+        kept: m + 1,
+        put: c,
+    }
 }
 
 // One pass over the l items that are left.

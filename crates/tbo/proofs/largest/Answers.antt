@@ -20,20 +20,16 @@ pub loop-ring-init : goal.loop-ring-init
 loop-ring-init c =
     rw (c.ring_time-a.ensures, c.ring_tokens-b.ensures) (ring_tour c.requires.weighted c.slowest-i.ensures)
 
-pub clear-requires : goal.clear-requires
-clear-requires c = tt
+pub improve-better-requires-clause-ordered : goal.improve-better-requires-clause-ordered
+improve-better-requires-clause-ordered c = (c.order.ensures, pair_of c.requires.weighted c.loop-ring.invariant)
 
-pub improve-f-requires : goal.improve-f-requires
-improve-f-requires c =
-    record { weighted = c.requires.weighted; ordered = (c.order.ensures, pair_of c.requires.weighted c.loop-ring.invariant); level = record { low = λ v. omega (arith, c.clear.ensures.low v); long = c.clear.ensures.long } }
-
-pub returns-in-Certified : goal.returns-in-Certified
-returns-in-Certified c =
-    largest_by c.requires.weighted c.loop-ring.invariant c.requires.live c.improve-f.ensures c.in-Certified.is
+pub returns-in_default : goal.returns-in_default
+returns-in_default c =
+    largest_by c.requires.weighted c.loop-ring.invariant c.requires.live c.improve-better.ensures c.in_default.is
 
 pub loop-ring-smaller : goal.loop-ring-smaller
 loop-ring-smaller c =
-    nearer_of c.requires.weighted c.loop-ring.invariant c.requires.live c.improve-f.ensures c.in-Better.is
+    nearer_of c.requires.weighted c.loop-ring.invariant c.requires.live c.improve-better.ensures c.in-Some.is
 
 pub loop-ring-preserved : goal.loop-ring-preserved
-loop-ring-preserved c = (improves_better c.improve-f.ensures.improves c.in-Better.is).0
+loop-ring-preserved c = (improves_better c.improve-better.ensures.improves c.in-Some.is).0

@@ -4,8 +4,6 @@ use Prim.Native.Nat.{◌+◌}
 use Rattle.std.proofs.lemmas.List.{length-take-le}
 use native.Mathlib.Omega.{arith}
 use Rattle.fraction.proofs.Loads.{weighted_short}
-use Rattle.tbo_order.specs.helpers.Items.{Item}
-use Rattle.tbo_sweep.specs.helpers.Places.{Among}
 use Rattle.tbo_sweep.proofs.Sweeping.{room_more}
 use Rattle.tbo_sweep.proofs.Among.{all_among, among_last, handed}
 use Rattle.tbo_sweep.proofs.Tries.{room_swept, swepts_none, swepts_then, swepts_to}

@@ -1,6 +1,5 @@
 -- The sweeps settle, which certifies; or the notes come round, which is a better ring.
 use Rattle.tbo_round.proofs.Chains.{notes_of}
-use Prim.Native.Nat.{◌-◌}
 use mathlib.Core.Path.{refl}
 use native.Mathlib.Omega.{arith}
 use Rattle.marked.proofs.Fresh.{zeros}
@@ -11,56 +10,51 @@ use Rattle.tbo.specs.helpers.Improved.Improves.{beaten, certified}
 use Rattle.tbo.proofs.Running.{better, certify, lands, rose, running_on, running_start, steady_next, turns}
 use Rattle.tbo.proofs.improve.improve.Goals as goal
 
-pub loop-pred-init : goal.loop-pred-init
-loop-pred-init c =
+pub loop-init : goal.loop-init
+loop-init c =
     (running_start (zeros 122), record { low = λ v. omega (arith, c.requires.level.low v); long = c.requires.level.long; wide = refl })
 
 pub sweep-v-requires : goal.sweep-v-requires
 sweep-v-requires c =
-    record { weighted = c.requires.weighted; ordered = c.requires.ordered; room = room_more (omega (arith, c.loop-pred.invariant.0.few, c.requires.weighted.wired.operations)) c.loop-pred.invariant.1 }
+    record { weighted = c.requires.weighted; ordered = c.requires.ordered; room = room_more (omega (arith, c.loop.invariant.0.few, c.requires.weighted.wired.operations)) c.loop.invariant.1 }
 
 pub returns-then-v-eq-NONE : goal.returns-then-v-eq-NONE
 returns-then-v-eq-NONE c =
-    let room = room_swept (weighted_short c.requires.weighted) c.requires.ordered.1.down c.loop-pred.invariant.1 c.sweep-v.ensures in
+    let room = room_swept (weighted_short c.requires.weighted) c.requires.ordered.1.down c.loop.invariant.1 c.sweep-v.ensures in
     record {
-      improves = certified (certify c.loop-pred.invariant.0 c.sweep-v.ensures.swept c.if-v-eq-NONE.true);
-      low = λ v. omega (arith, c.requires.weighted.wired.operations, c.requires.weighted.wired.edges, c.loop-pred.invariant.0.few, room.low v);
+      improves = certified (certify c.loop.invariant.0 c.sweep-v.ensures.swept c.if-v-eq-NONE.true);
+      low = λ v. omega (arith, c.requires.weighted.wired.operations, c.requires.weighted.wired.edges, c.loop.invariant.0.few, room.low v);
     }
 
 pub follow-w-requires : goal.follow-w-requires
 follow-w-requires c =
-    let notes = notes_of (steady_next c.loop-pred.invariant.0 c.sweep-v.ensures.swept) in record { wired = c.requires.weighted.wired; notes = notes; v_bound = (rose c.loop-pred.invariant.0 c.sweep-v.ensures.swept c.if-v-eq-NONE.false).0 }
+    let notes = notes_of (steady_next c.loop.invariant.0 c.sweep-v.ensures.swept) in record { wired = c.requires.weighted.wired; notes = notes; v_bound = (rose c.loop.invariant.0 c.sweep-v.ensures.swept c.if-v-eq-NONE.false).0 }
 
 pub offset_bounds-pred-w : goal.offset_bounds-pred-w
 offset_bounds-pred-w c =
-    let place = lands c.loop-pred.invariant.0 c.sweep-v.ensures.swept (weighted_proper c.requires.weighted) c.if-v-eq-NONE.false c.follow-w.ensures in
+    let place = lands c.loop.invariant.0 c.sweep-v.ensures.swept (weighted_proper c.requires.weighted) c.if-v-eq-NONE.false c.follow-w.ensures in
     omega (arith, c.requires.weighted.wired.operations, place)
 
 pub bounds-pred-w : goal.bounds-pred-w
 bounds-pred-w c =
-    let place = lands c.loop-pred.invariant.0 c.sweep-v.ensures.swept (weighted_proper c.requires.weighted) c.if-v-eq-NONE.false c.follow-w.ensures in
+    let place = lands c.loop.invariant.0 c.sweep-v.ensures.swept (weighted_proper c.requires.weighted) c.if-v-eq-NONE.false c.follow-w.ensures in
     omega (arith, c.requires.weighted.wired.operations, place)
 
-pub go_round-ring-requires : goal.go_round-ring-requires
-go_round-ring-requires c =
-    record { weighted = c.requires.weighted; turns = turns c.loop-pred.invariant.0 c.sweep-v.ensures.swept (weighted_proper c.requires.weighted) c.if-v-eq-NONE.false c.follow-w.ensures c.if-pred-w-ne0.true }
+pub go_round-requires : goal.go_round-requires
+go_round-requires c =
+    record { weighted = c.requires.weighted; turns = turns c.loop.invariant.0 c.sweep-v.ensures.swept (weighted_proper c.requires.weighted) c.if-v-eq-NONE.false c.follow-w.ensures c.if-pred-w-ne0.true }
 
 pub returns-then-pred-w-ne0 : goal.returns-then-pred-w-ne0
 returns-then-pred-w-ne0 c =
-    let walk = better c.loop-pred.invariant.0 c.sweep-v.ensures.swept c.go_round-ring.ensures in
-    let room = room_swept (weighted_short c.requires.weighted) c.requires.ordered.1.down c.loop-pred.invariant.1 c.sweep-v.ensures in
-    record { improves = beaten walk.0 walk.1; low = λ v. omega (arith, c.requires.weighted.wired.operations, c.requires.weighted.wired.edges, c.loop-pred.invariant.0.few, room.low v) }
+    let walk = better c.loop.invariant.0 c.sweep-v.ensures.swept c.go_round.ensures in
+    let room = room_swept (weighted_short c.requires.weighted) c.requires.ordered.1.down c.loop.invariant.1 c.sweep-v.ensures in
+    record { improves = beaten walk.0 walk.1; low = λ v. omega (arith, c.requires.weighted.wired.operations, c.requires.weighted.wired.edges, c.loop.invariant.0.few, room.low v) }
 
-pub overflow_add-k : goal.overflow_add-k
-overflow_add-k c = omega (arith, c.loop-pred.invariant.0.few, c.requires.weighted.wired.operations)
-
-pub loop-pred-smaller : goal.loop-pred-smaller
-loop-pred-smaller c =
-    let next = running_on c.loop-pred.invariant.0 c.sweep-v.ensures.swept (weighted_proper c.requires.weighted) c.if-v-eq-NONE.false c.follow-w.ensures c.if-pred-w-ne0.false in
-    omega (arith, next)
-
-pub loop-pred-preserved : goal.loop-pred-preserved
-loop-pred-preserved c =
-    let room = room_swept (weighted_short c.requires.weighted) c.requires.ordered.1.down c.loop-pred.invariant.1 c.sweep-v.ensures in
-    let next = running_on c.loop-pred.invariant.0 c.sweep-v.ensures.swept (weighted_proper c.requires.weighted) c.if-v-eq-NONE.false c.follow-w.ensures c.if-pred-w-ne0.false in
+pub loop-preserved : goal.loop-preserved
+loop-preserved c =
+    let room = room_swept (weighted_short c.requires.weighted) c.requires.ordered.1.down c.loop.invariant.1 c.sweep-v.ensures in
+    let next = running_on c.loop.invariant.0 c.sweep-v.ensures.swept (weighted_proper c.requires.weighted) c.if-v-eq-NONE.false c.follow-w.ensures c.if-pred-w-ne0.false in
     (next, room_more (omega (arith, c.requires.weighted.wired.operations, c.requires.weighted.wired.edges)) room)
+
+pub unreachable-requires : goal.unreachable-requires
+unreachable-requires c = omega (arith, c.requires.weighted.wired.operations, c.loop.invariant.0.few)

@@ -1,18 +1,15 @@
 -- The sweeps settle, which certifies; or the notes come round, which is a better ring.
-use Prim.Native.Nat.{◌+◌, ◌*◌, ◌-◌}
+use Prim.Native.Nat.{◌+◌, ◌*◌}
 use Rattle.marked.specs.Net.{at}
 use Rattle.net.specs.Graph.{net_of}
 use Rattle.net.specs.Plan.{wires}
 use Rattle.fraction.specs.helpers.Loaded.{most_time}
 use Rattle.tbo_sweep.specs.helpers.Raises.{Room}
 use Rattle.tbo.specs.helpers.Improved.{lowly}
-use Rattle.tbo.proofs.Running.{Running, better}
+use Rattle.tbo.proofs.Running.{Running}
 use Rattle.tbo.proofs.improve.improve.Given as goal
 
 -- The invariant: k sweeps have led here. A sweep that raises nothing certifies; notes that come round are a better closed walk; and after as many sweeps as transitions they do.
-abbrev pub invariant-loop-pred : goal.invariant-loop-pred
-invariant-loop-pred l =
-    Running (net_of (wires l.n l.e l.from l.to)) (at l.marking) (at l.times) l.a l.b (at l.initial.d) (at l.d) (at l.pred) l.k × Room (lowly + l.k * (1000 * most_time)) l.d l.pred
-
-abbrev pub decreases-loop-pred : goal.decreases-loop-pred
-decreases-loop-pred l = 3 * l.n + 2 - l.k
+abbrev pub invariant-loop : goal.invariant-loop
+invariant-loop l =
+    Running (net_of (wires l.n l.e l.from l.to)) (at l.marking) (at l.times) l.a l.b (at l.initial.d) (at l.d) (at l.pred) l.counter × Room (lowly + l.counter * (1000 * most_time)) l.d l.pred
