@@ -35,7 +35,8 @@ pub fn improve(
         }
         let w = tbo_round::follow(n, e, from, to, &pred, v);
         if pred[w] != 0 {
-            return Some(tbo_round::go_round(n, e, from, to, marking, times, &pred, w));
+            let ring = tbo_round::go_round(n, e, from, to, marking, times, &pred, w);
+            return Some(ring);
         }
     }
     // The notes come round after as many sweeps as there are transitions.

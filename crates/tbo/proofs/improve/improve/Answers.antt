@@ -40,13 +40,13 @@ bounds-pred-w c =
     let place = lands c.loop.invariant.0 c.sweep-v.ensures.swept (weighted_proper c.requires.weighted) c.if-v-eq-NONE.false c.follow-w.ensures in
     omega (arith, c.requires.weighted.wired.operations, place)
 
-pub go_round-requires : goal.go_round-requires
-go_round-requires c =
+pub go_round-ring-requires : goal.go_round-ring-requires
+go_round-ring-requires c =
     record { weighted = c.requires.weighted; turns = turns c.loop.invariant.0 c.sweep-v.ensures.swept (weighted_proper c.requires.weighted) c.if-v-eq-NONE.false c.follow-w.ensures c.if-pred-w-ne0.true }
 
 pub returns-then-pred-w-ne0 : goal.returns-then-pred-w-ne0
 returns-then-pred-w-ne0 c =
-    let walk = better c.loop.invariant.0 c.sweep-v.ensures.swept c.go_round.ensures in
+    let walk = better c.loop.invariant.0 c.sweep-v.ensures.swept c.go_round-ring.ensures in
     let room = room_swept (weighted_short c.requires.weighted) c.requires.ordered.1.down c.loop.invariant.1 c.sweep-v.ensures in
     record { improves = beaten walk.0 walk.1; low = λ v. omega (arith, c.requires.weighted.wired.operations, c.requires.weighted.wired.edges, c.loop.invariant.0.few, room.low v) }
 
