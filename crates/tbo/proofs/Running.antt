@@ -1,4 +1,5 @@
 -- Sweeps until none raises, or until a chain comes round.
+use Rattle.std.specs.Prelude.{Option, None, Some}
 use mathlib.Core.Path.{◌≡◌, ap, sym, ◌∙◌, subst}
 use mathlib.Core.Logic.{◌≢◌, ⊎_elim}
 use Prim.Native.Nat.{◌*◌, ◌+◌, ◌<◌, ◌≤◌, suc, ℕ}
@@ -6,7 +7,6 @@ use native.Mathlib.Omega.{arith}
 use Rattle.marked.specs.Net.{Net, Proper}
 use Rattle.marked.specs.Bounds.{Certifies}
 use Rattle.marked.proofs.Find.{above}
-use Rattle.net.specs.Limits.{most_transitions}
 use Rattle.tbo_sweep.specs.helpers.Places.{Every}
 use Rattle.tbo_sweep.specs.helpers.Raises.{SweptOver}
 use Rattle.tbo_sweep.proofs.Lifting.{lifts_up}
@@ -25,26 +25,26 @@ pub running_start : {g : Net} {m time : ℕ → ℕ} {a b : ℕ} {C P : ℕ → 
 running_start z = record { sweeps = begun; steady = steady_start z; few = omega arith }
 
 module _
-    {g : Net} {m time : ℕ → ℕ} {a b : ℕ} {C D P E Q : ℕ → ℕ} {k y most : ℕ} (r : Running g m time a b C D P k)
-    (s : SweptOver g m time a b (Every g.places) most D P E Q most_transitions y) where
+    {g : Net} {m time : ℕ → ℕ} {a b : ℕ} {C D P E Q : ℕ → ℕ} {k most : ℕ} {y : Option ℕ} (r : Running g m time a b C D P k)
+    (s : SweptOver g m time a b (Every g.places) most D P E Q y) where
   -- no rise: a certificate
-  pub certify : y ≡ most_transitions → Certifies g m time a b E
-  certify e = λ p h. omega (arith, s.passed p h, (s.quiet e).1 (g.src p))
+  pub certify : y ≡ None → Certifies g m time a b E
+  certify e = λ p h. omega (arith, s.passed p h, s.quiet e (g.src p))
 
   pub steady_next : Steady g m time a b C E Q
   steady_next = steady_through s.lifts r.steady
 
   -- a rise
-  pub rose : y ≢ most_transitions → (y < g.transitions) × (D y < E y)
-  rose f = ⊎_elim (λ e. absurd (f e)) (λ h. h) s.loud
+  pub rose : {v : ℕ} → y ≡ Some v → (v < g.transitions) × (D v < E v)
+  rose {v} f = s.loud v f
 
-  module _ (ok : Proper g) (f : y ≢ most_transitions) {w : ℕ} (ew : w ≡ back g Q g.transitions y) where
+  module _ (ok : Proper g) {v : ℕ} (f : y ≡ Some v) {w : ℕ} (ew : w ≡ back g Q g.transitions v) where
     pub lands : w < g.transitions
-    lands = omega (arith, back_in (notes_of steady_next) ok g.transitions y (rose f).0)
+    lands = omega (arith, back_in (notes_of steady_next) ok g.transitions v (rose f).0)
 
     pub turns : Q w ≢ 0 → Turns g Q w
     turns n =
-        let c = comes_round (notes_of steady_next) ok y (rose f).0 in
+        let c = comes_round (notes_of steady_next) ok v (rose f).0 in
         record {
           notes = notes_of steady_next;
           within = lands;
@@ -56,7 +56,7 @@ module _
         }
 
     later : Q w ≡ 0 → k < g.transitions
-    later e = ⊎_elim (λ h. h) (λ h. absurd (no_end y r.sweeps steady_next h (rose f).1 (sym (ap Q ew) ∙ e))) (above k g.transitions)
+    later e = ⊎_elim (λ h. h) (λ h. absurd (no_end v r.sweeps steady_next h (rose f).1 (sym (ap Q ew) ∙ e))) (above k g.transitions)
 
     pub running_on : Q w ≡ 0 → Running g m time a b C E Q (k + 1)
     running_on e = record {

@@ -7,7 +7,6 @@ ghost use Rattle.tbo.specs.helpers.Improved.{Improved, lowly};
 use net::{EDGES, PLACES, TRANSITIONS};
 use tbo_order::ITEMS;
 use tbo_round::Ring;
-use tbo_sweep::NONE;
 
 // Sweeps until none raises anything, which certifies, or until the notes come round: a closed walk that has more.
 pub fn improve(
@@ -29,10 +28,10 @@ pub fn improve(
 {
     let mut pred = [0u16; TRANSITIONS];
     for _ in 0..TRANSITIONS + 1 {
-        let v = tbo_sweep::sweep(n, e, from, to, marking, times, ord, a, b, d, &mut pred);
-        if v == NONE {
+        let Some(v) = tbo_sweep::sweep(n, e, from, to, marking, times, ord, a, b, d, &mut pred)
+        else {
             return None;
-        }
+        };
         let w = tbo_round::follow(n, e, from, to, &pred, v);
         if pred[w] != 0 {
             let ring = tbo_round::go_round(n, e, from, to, marking, times, &pred, w);

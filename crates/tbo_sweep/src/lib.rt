@@ -13,10 +13,7 @@ use fraction::weigh;
 use net::{EDGES, PLACES, TRANSITIONS, ends};
 use tbo_order::ITEMS;
 
-// No transition.
-pub const NONE: usize = TRANSITIONS;
-
-// The raise of t from s over the place p. The answer is the transition that rose last.
+// The raise of t from s over the place p. The answer is t if it rose.
 fn raise(
     marking: &[u8; PLACES],
     times: &[u32; TRANSITIONS],
@@ -27,25 +24,24 @@ fn raise(
     s: usize,
     t: usize,
     p: usize,
-    last: usize,
-) -> usize
+) -> Option<usize>
     requires s_lt_most_transitions { (s < most_transitions) × (t < most_transitions) × (p < most_places) }
     requires s_bound { (at times.now s ≤ longest_time) × (at marking.now p ≤ most_tokens) × Pair a b }
     requires room { Room (3 * highest) d.old pred.old }
     ensures { Raised s t p (b * at times.now s) (a * at marking.now p) d.old
-        pred.old last d.new pred.new result }
+        pred.old d.new pred.new result }
 {
     let up = d[s] + weigh::gained(b, times[s]);
     let cost = weigh::paid(a, marking[p]);
     if d[t] + cost < up {
         d[t] = up - cost;
         pred[t] = (p + 1) as u16;
-        return t;
+        return Some(t);
     }
-    last
+    None
 }
 
-// The three places of the operation in row i.
+// The three places of the operation in row i. The answer, here and below, is the transition that rose last, if one did.
 fn raise_op(
     n: usize,
     e: usize,
@@ -58,19 +54,19 @@ fn raise_op(
     b: u64,
     d: &mut [u64; TRANSITIONS],
     pred: &mut [u16; TRANSITIONS],
-    last: usize,
-) -> usize
+) -> Option<usize>
     requires weighted { Weighted n e from.now to.now marking.now times.now }
     requires i_lt_n { (i < n) × Pair a b }
     requires room { Room (2 * highest) d.old pred.old }
     ensures { SweptArrays (loaded n e from.now to.now marking.now times.now)
         a b (Between (3 * i) (3 * i + 3)) 3 d.old pred.old d.new
-        pred.new last result }
+        pred.new result }
 {
     let p = 3 * i;
-    let x = raise(marking, times, a, b, d, pred, p + 1, p + 2, p, last);
-    let y = raise(marking, times, a, b, d, pred, p + 2, p + 3, p + 1, x);
-    raise(marking, times, a, b, d, pred, p + 3, p + 1, p + 2, y)
+    let x = raise(marking, times, a, b, d, pred, p + 1, p + 2, p);
+    let y = raise(marking, times, a, b, d, pred, p + 2, p + 3, p + 1);
+    let z = raise(marking, times, a, b, d, pred, p + 3, p + 1, p + 2);
+    z.or(y.or(x))
 }
 
 // The two places of edge k.
@@ -86,20 +82,20 @@ fn raise_edge(
     b: u64,
     d: &mut [u64; TRANSITIONS],
     pred: &mut [u16; TRANSITIONS],
-    last: usize,
-) -> usize
+) -> Option<usize>
     requires weighted { Weighted n e from.now to.now marking.now times.now }
     requires k_lt_e { (k < e) × Pair a b }
     requires room { Room (2 * highest) d.old pred.old }
     ensures { SweptArrays (loaded n e from.now to.now marking.now times.now)
         a b (Between (3 * n + 2 * k) (3 * n + 2 * k + 2)) 2 d.old pred.old d.new
-        pred.new last result }
+        pred.new result }
 {
     let p = 3 * n + 2 * k;
     let u = ends::write_of(from[k]);
     let v = ends::read_of(to[k]);
-    let x = raise(marking, times, a, b, d, pred, u, v, p, last);
-    raise(marking, times, a, b, d, pred, v, u, p + 1, x)
+    let x = raise(marking, times, a, b, d, pred, u, v, p);
+    let y = raise(marking, times, a, b, d, pred, v, u, p + 1);
+    y.or(x)
 }
 
 // The places of the item x.
@@ -115,34 +111,20 @@ fn raise_item(
     b: u64,
     d: &mut [u64; TRANSITIONS],
     pred: &mut [u16; TRANSITIONS],
-    last: usize,
-) -> usize
+) -> Option<usize>
     requires weighted { Weighted n e from.now to.now marking.now times.now }
     requires item { Item n e x × Pair a b }
     requires room { Room (2 * highest) d.old pred.old }
     ensures { SweptArrays (loaded n e from.now to.now marking.now times.now)
-        a b (Of n x) 3 d.old pred.old d.new pred.new last result }
+        a b (Of n x) 3 d.old pred.old d.new pred.new result }
 {
     if x >= EDGES {
-        return raise_op(
-            n,
-            e,
-            x - EDGES,
-            from,
-            to,
-            marking,
-            times,
-            a,
-            b,
-            d,
-            pred,
-            last,
-        );
+        return raise_op(n, e, x - EDGES, from, to, marking, times, a, b, d, pred);
     }
-    raise_edge(n, e, x, from, to, marking, times, a, b, d, pred, last)
+    raise_edge(n, e, x, from, to, marking, times, a, b, d, pred)
 }
 
-// Every place once, item by item in the order of ord. The answer is the transition that rose last.
+// Every place once, item by item in the order of ord.
 pub fn sweep(
     n: usize,
     e: usize,
@@ -155,30 +137,19 @@ pub fn sweep(
     b: u64,
     d: &mut [u64; TRANSITIONS],
     pred: &mut [u16; TRANSITIONS],
-) -> usize
+) -> Option<usize>
     requires weighted { Weighted n e from.now to.now marking.now times.now }
     requires ordered { Ordered n e ord.now × Pair a b }
     requires room { Room highest d.old pred.old }
     ensures { SweptArrays (loaded n e from.now to.now marking.now times.now)
         a b (Every (3 * n + 2 * e)) (3 * (n + e)) d.old pred.old d.new
-        pred.new most_transitions result }
+        pred.new result }
 {
-    let mut last = NONE;
+    let mut last = None;
     for &x in &ord[..n + e] {
-        last = raise_item(
-            n,
-            e,
-            usize::from(x),
-            from,
-            to,
-            marking,
-            times,
-            a,
-            b,
-            d,
-            pred,
-            last,
-        );
+        let k = usize::from(x);
+        let risen = raise_item(n, e, k, from, to, marking, times, a, b, d, pred);
+        last = risen.or(last);
     }
     last
 }

@@ -1,5 +1,5 @@
 -- Sweeps: potentials of transitions that places raise, with the place that raised each last (its number plus one; 0: none yet).
-use Rattle.std.specs.Prelude.{◌≡◌, ◌≢◌, ◌⊎◌, List, ◌*◌, ◌+◌, ◌-◌, ◌<◌, ◌≤◌, suc, ℕ, length, set}
+use Rattle.std.specs.Prelude.{◌≡◌, ◌≢◌, List, Option, None, Some, ◌*◌, ◌+◌, ◌-◌, ◌<◌, ◌≤◌, suc, ℕ, length, set}
 use Rattle.marked.specs.Net.{Net, at}
 use Rattle.net.specs.Limits.{most_transitions}
 use Rattle.fraction.specs.helpers.Loaded.{Loaded}
@@ -26,15 +26,14 @@ pub data Lifts (g : Net) (m time : ℕ → ℕ) (a b : ℕ) (D P : ℕ → ℕ) 
 abbrev pub NoRise : Net → (ℕ → ℕ) → (ℕ → ℕ) → ℕ → ℕ → (ℕ → ℕ) → (ℕ → ℕ) → ℕ → Type 0
 NoRise g m time a b D E p = D (g.src p) + b * time (g.src p) ≤ E (g.dst p) + a * m p
 
--- The places of S were tried, with that many rises at most. x and y: the transition that rose last, before and after; the number of no transition
--- where none did.
-pub record SweptOver (g : Net) (m time : ℕ → ℕ) (a b : ℕ) (S : ℕ → Type 0) (most : ℕ) (D P E Q : ℕ → ℕ) (x y : ℕ) : Type 0 where
+-- The places of S were tried, with that many rises at most. y: the transition that rose last, if one did.
+pub record SweptOver (g : Net) (m time : ℕ → ℕ) (a b : ℕ) (S : ℕ → Type 0) (most : ℕ) (D P E Q : ℕ → ℕ) (y : Option ℕ) : Type 0 where
   pub rises : ℕ
   pub few : rises ≤ most
   pub lifts : Lifts g m time a b D P rises E Q
   pub passed : (p : ℕ) → S p → NoRise g m time a b D E p
-  pub quiet : y ≡ most_transitions → (x ≡ most_transitions) × ((v : ℕ) → E v ≡ D v)
-  pub loud : (y ≡ x) ⊎ ((y < g.transitions) × (D y < E y))
+  pub quiet : y ≡ None → (v : ℕ) → E v ≡ D v
+  pub loud : (v : ℕ) → y ≡ Some v → (v < g.transitions) × (D v < E v)
 
 -- No potential is above top, and there is one for every transition.
 pub record Level (top : ℕ) (d : List ℕ) : Type 0 where
@@ -48,15 +47,15 @@ pub record Room (top : ℕ) (d c : List ℕ) : Type 0 where
   pub wide : length c ≡ most_transitions
 
 -- One raise, of t from s over the place p: the entry is raised and the place noted, or all is kept.
-pub data Raised (s t p up down : ℕ) (d c : List ℕ) (x : ℕ) : List ℕ → List ℕ → ℕ → Type 0 where
+pub data Raised (s t p up down : ℕ) (d c : List ℕ) : List ℕ → List ℕ → Option ℕ → Type 0 where
   raised : t < length d
       → t < length c
       → at d t + down < at d s + up
-      → Raised s t p up down d c x (set d t (at d s + up - down)) (set c t (p + 1)) t
-  kept : at d s + up ≤ at d t + down → Raised s t p up down d c x d c x
+      → Raised s t p up down d c (set d t (at d s + up - down)) (set c t (p + 1)) (Some t)
+  kept : at d s + up ≤ at d t + down → Raised s t p up down d c d c None
 
 -- The places of S were tried on the arrays d and c, which became h and k.
-pub record SweptArrays (g : Loaded) (a b : ℕ) (S : ℕ → Type 0) (most : ℕ) (d c h k : List ℕ) (x y : ℕ) : Type 0 where
-  pub swept : SweptOver g.net g.held g.time a b S most (at d) (at c) (at h) (at k) x y
+pub record SweptArrays (g : Loaded) (a b : ℕ) (S : ℕ → Type 0) (most : ℕ) (d c h k : List ℕ) (y : Option ℕ) : Type 0 where
+  pub swept : SweptOver g.net g.held g.time a b S most (at d) (at c) (at h) (at k) y
   pub long : length h ≡ length d
   pub wide : length k ≡ length c
