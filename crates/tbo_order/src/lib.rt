@@ -4,11 +4,11 @@
 
 ghost use Rattle.std.specs.Prelude.{◌≡◌, true, ◌+◌, ◌<◌, ◌≤◌, length};
 ghost use Rattle.net.specs.Limits.{most_edges, most_operations, most_transitions};
-ghost use Rattle.net.specs.Good.{Wired};
 ghost use Rattle.tbo_order.specs.helpers.Items.{Enlisted, Item, ItemAt, Ordered, Sorting, most_items};
 ghost use Rattle.tbo_order.specs.helpers.Orders.{PassDone, Took};
 
-use net::{EDGES, OPERATIONS, PLACES, TRANSITIONS, ends};
+use net::wiring::Wiring;
+use net::{EDGES, OPERATIONS, PLACES, TRANSITIONS};
 
 // Room for every item.
 pub const ITEMS: usize = OPERATIONS + EDGES;
@@ -25,73 +25,38 @@ fn item(n: usize, e: usize, i: usize) -> u8
     }
 }
 
-// Where the item's places without a token come from: an operation's from its read, an edge's from a write where its full place has none, else from a read.
-fn gate(
-    n: usize,
-    e: usize,
-    from: &[u8; EDGES],
-    to: &[u8; EDGES],
-    marking: &[u8; PLACES],
-    x: usize,
-) -> usize
-    requires wired { Wired n e from.now to.now }
-    requires item { Item n e x }
-    ensures { result < most_transitions }
+// From which transition to which the item's places without a token lead: an operation's from its read on, an edge's from a write to a read where its
+// full place has none, else back.
+fn way(g: &Wiring, marking: &[u8; PLACES], x: usize) -> (usize, usize)
+    requires { Item g.now.operations g.now.edges x }
+    ensures { (result.0 < most_transitions) × (result.1 < most_transitions) }
 {
     if x >= EDGES {
-        return 3 * (x - EDGES) + 1;
+        let p = 3 * (x - EDGES);
+        return (p + 1, p + 3);
     }
-    if marking[3 * n + 2 * x] == 0 {
-        return ends::write_of(from[x]);
+    let writer = g.writer(x);
+    let reader = g.reader(x);
+    if marking[3 * g.operations + 2 * x] == 0 {
+        return (writer, reader);
     }
-    ends::read_of(to[x])
-}
-
-// Where they lead.
-fn goal(
-    n: usize,
-    e: usize,
-    from: &[u8; EDGES],
-    to: &[u8; EDGES],
-    marking: &[u8; PLACES],
-    x: usize,
-) -> usize
-    requires wired { Wired n e from.now to.now }
-    requires item { Item n e x }
-    ensures { result < most_transitions }
-{
-    if x >= EDGES {
-        return 3 * (x - EDGES) + 3;
-    }
-    if marking[3 * n + 2 * x] == 0 {
-        return ends::read_of(to[x]);
-    }
-    ends::write_of(from[x])
+    (reader, writer)
 }
 
 // How many items lead to each transition, with all items in left.
-fn enlist(
-    n: usize,
-    e: usize,
-    from: &[u8; EDGES],
-    to: &[u8; EDGES],
-    marking: &[u8; PLACES],
-    wait: &mut [u8; TRANSITIONS],
-    left: &mut [u8; ITEMS],
-)
-    requires wired { Wired n e from.now to.now }
+fn enlist(g: &Wiring, marking: &[u8; PLACES], wait: &mut [u8; TRANSITIONS], left: &mut [u8; ITEMS])
     requires left_len { length left.old ≡ most_items }
-    ensures { Enlisted n e (n + e) left.new }
+    ensures { Enlisted g.now.operations g.now.edges (g.now.operations + g.now.edges) left.new }
 {
-    for i in 0..n + e {
-        let x = item(n, e, i);
+    for i in 0..g.operations + g.edges {
+        let x = item(g.operations, g.edges, i);
         left[i] = x;
-        let t = goal(n, e, from, to, marking, usize::from(x));
+        let (_, t) = way(g, marking, usize::from(x));
         wait[t] = wait[t].saturating_add(1);
     }
 }
 
-// Whether an item may be taken: when nothing that leads to its gate is left, or when it must.
+// Whether an item may be taken: when nothing that leads to where it begins is left, or when it must.
 fn ready(force: bool, waits: u8) -> bool
     ensures { force ≡ true → result ≡ true }
 {
@@ -107,10 +72,7 @@ pub struct Taken {
 
 // The item at i of left goes to the end of the order, or is kept.
 fn take(
-    n: usize,
-    e: usize,
-    from: &[u8; EDGES],
-    to: &[u8; EDGES],
+    g: &Wiring,
     marking: &[u8; PLACES],
     force: bool,
     i: usize,
@@ -121,15 +83,13 @@ fn take(
     left: &mut [u8; ITEMS],
     ord: &mut [u8; ITEMS],
 ) -> Taken
-    requires wired { Wired n e from.now to.now }
     requires i_lt_l { i < l }
-    requires sorting { Sorting n e left.old ord.old i l m c }
-    ensures { Took n e left.new ord.new force i l m result.kept result.put }
+    requires sorting { Sorting g.now.operations g.now.edges left.old ord.old i l m c }
+    ensures { Took g.now.operations g.now.edges left.new ord.new force i l m result.kept result.put }
 {
     let x = left[i];
-    let k = usize::from(x);
-    if ready(force, wait[gate(n, e, from, to, marking, k)]) {
-        let t = goal(n, e, from, to, marking, k);
+    let (s, t) = way(g, marking, usize::from(x));
+    if ready(force, wait[s]) {
         wait[t] = wait[t].saturating_sub(1);
         ord[c] = x;
         return Taken {
@@ -146,10 +106,7 @@ fn take(
 
 // One pass over the l items that are left.
 fn pass(
-    n: usize,
-    e: usize,
-    from: &[u8; EDGES],
-    to: &[u8; EDGES],
+    g: &Wiring,
     marking: &[u8; PLACES],
     force: bool,
     l: usize,
@@ -158,14 +115,13 @@ fn pass(
     left: &mut [u8; ITEMS],
     ord: &mut [u8; ITEMS],
 ) -> Taken
-    requires wired { Wired n e from.now to.now }
-    requires sorting { Sorting n e left.old ord.old 0 l 0 c }
-    ensures { PassDone n e left.new ord.new force l result.kept result.put }
+    requires sorting { Sorting g.now.operations g.now.edges left.old ord.old 0 l 0 c }
+    ensures { PassDone g.now.operations g.now.edges left.new ord.new force l result.kept result.put }
 {
     let mut m = 0;
     let mut p = c;
     for i in 0..l {
-        let s = take(n, e, from, to, marking, force, i, l, m, p, wait, left, ord);
+        let s = take(g, marking, force, i, l, m, p, wait, left, ord);
         m = s.kept;
         p = s.put;
     }
@@ -173,32 +129,20 @@ fn pass(
 }
 
 // Passes until one takes nothing; what is left then, where a circuit has no token, follows as it stands.
-pub fn order(
-    n: usize,
-    e: usize,
-    from: &[u8; EDGES],
-    to: &[u8; EDGES],
-    marking: &[u8; PLACES],
-    ord: &mut [u8; ITEMS],
-)
-    requires wired { Wired n e from.now to.now }
+pub fn order(g: &Wiring, marking: &[u8; PLACES], ord: &mut [u8; ITEMS])
     requires ord_len { length ord.old ≡ most_items }
-    ensures { Ordered n e ord.new }
+    ensures { Ordered g.now.operations g.now.edges ord.new }
 {
     let mut wait = [0u8; TRANSITIONS];
     let mut left = [0u8; ITEMS];
-    enlist(n, e, from, to, marking, &mut wait, &mut left);
-    let mut l = n + e;
+    enlist(g, marking, &mut wait, &mut left);
+    let mut l = g.operations + g.edges;
     let mut c = 0;
     loop {
-        let s = pass(
-            n, e, from, to, marking, false, l, c, &mut wait, &mut left, ord,
-        );
+        let s = pass(g, marking, false, l, c, &mut wait, &mut left, ord);
         c = s.put;
         if s.kept == l {
-            pass(
-                n, e, from, to, marking, true, l, c, &mut wait, &mut left, ord,
-            );
+            pass(g, marking, true, l, c, &mut wait, &mut left, ord);
             return;
         }
         l = s.kept;

@@ -5,19 +5,19 @@ use Rattle.tbo_order.proofs.Sorting.{sort_end, sort_left, sort_start}
 use Rattle.tbo_order.proofs.order.Goals as goal
 
 pub enlist-requires : goal.enlist-requires
-enlist-requires c = record { wired = c.requires.wired; left_len = refl }
+enlist-requires c = record { left_len = refl }
 
 pub overflow_add-l : goal.overflow_add-l
-overflow_add-l c = omega (arith, c.requires.wired.operations, c.requires.wired.edges)
+overflow_add-l c = omega (arith, c.args.g.now.wired.operations, c.args.g.now.wired.edges)
 
 pub loop-l-init : goal.loop-l-init
-loop-l-init c = sort_start c.requires.wired.edges c.enlist.ensures c.requires.ord_len
+loop-l-init c = sort_start c.args.g.now.wired.edges c.enlist.ensures c.requires.ord_len
 
 pub pass-s-requires : goal.pass-s-requires
-pass-s-requires c = record { wired = c.requires.wired; sorting = c.loop-l.invariant }
+pass-s-requires c = record { sorting = c.loop-l.invariant }
 
 pub pass-requires : goal.pass-requires
-pass-requires c = record { wired = c.requires.wired; sorting = sort_left c.if-s-l.true c.pass-s.ensures.sorting }
+pass-requires c = record { sorting = sort_left c.if-s-l.true c.pass-s.ensures.sorting }
 
 pub returns-then-s-l : goal.returns-then-s-l
 returns-then-s-l c = sort_end c.pass.ensures.sorting (c.pass.ensures.forced refl)

@@ -8,7 +8,7 @@ pub loop-i-init : goal.loop-i-init
 loop-i-init c = (c.requires.sorting, λ z. refl)
 
 pub take-s-requires : goal.take-s-requires
-take-s-requires c = record { wired = c.requires.wired; i_lt_l = omega arith; sorting = c.loop-i.invariant.0 }
+take-s-requires c = record { i_lt_l = omega arith; sorting = c.loop-i.invariant.0 }
 
 pub loop-i-preserved : goal.loop-i-preserved
 loop-i-preserved c = (c.take-s.ensures.sorting, λ z. c.take-s.ensures.forced z ∙ c.loop-i.invariant.1 z)
