@@ -20,3 +20,25 @@ pub struct Rate {
     pub tokens: u64,
     pub ghost pair: { Pair time tokens },
 }
+
+impl Rate {
+    ghost use Rattle.std.specs.Prelude.{◌≡◌, ◌*◌, ◌≤◌};
+    ghost use Rattle.net.specs.Limits.{longest_time};
+    ghost use Rattle.fraction.specs.helpers.Loaded.{most_cost, most_time, most_tokens};
+
+    // What a time gains: the rate's tokens for each unit of it.
+    pub fn gain(self, time: u32) -> u64
+        requires { time ≤ longest_time }
+        ensures { (result ≡ self.tokens * time) × (result ≤ most_time) }
+    {
+        self.tokens * u64::from(time)
+    }
+
+    // What tokens cost: the rate's time for each.
+    pub fn cost(self, tokens: u8) -> u64
+        requires { tokens ≤ most_tokens }
+        ensures { (result ≡ self.time * tokens) × (result ≤ most_cost) }
+    {
+        self.time * u64::from(tokens)
+    }
+}

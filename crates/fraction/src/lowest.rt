@@ -3,12 +3,7 @@ ghost use Rattle.std.specs.Prelude.{◌≤◌};
 ghost use Rattle.fraction.specs.helpers.Terms.{InLowest};
 ghost use Rattle.fraction.specs.helpers.Divides.{Divisor};
 
-// A number of time units for a number of tokens.
-#[derive(Clone, Copy)]
-pub struct Ratio {
-    pub num: u64,
-    pub den: u64,
-}
+use crate::load::Rate;
 
 // The greatest number that divides both.
 fn divisor(a: u64, b: u64) -> u64
@@ -25,14 +20,16 @@ fn divisor(a: u64, b: u64) -> u64
     x
 }
 
-// a / b in lowest terms.
-pub fn reduce(a: u64, b: u64) -> Ratio
-    requires { 1 ≤ b }
-    ensures { InLowest a b result.num result.den }
-{
-    let g = divisor(a, b);
-    Ratio {
-        num: a / g,
-        den: b / g,
+impl Rate {
+    // The same fraction in lowest terms.
+    pub fn reduced(self) -> Rate
+        requires { 1 ≤ self.tokens }
+        ensures { InLowest self.time self.tokens result.time result.tokens }
+    {
+        let g = divisor(self.time, self.tokens);
+        Rate {
+            time: self.time / g,
+            tokens: self.tokens / g,
+        }
     }
 }
