@@ -1,7 +1,7 @@
 -- A run as its loop goes: at the start, after an entry that fired, at one that is refused, and at the end.
 use mathlib.Core.Path.{◌≡◌, ◌∙◌, ap, refl, subst, sym}
 use mathlib.Core.List.{List, [], ◌∷◌}
-use Prim.Native.Nat.{◌*◌, ◌+◌, ◌-◌, ◌<◌, ◌≤◌, suc, ℕ}
+use Prim.Native.Nat.{◌*◌, ◌+◌, ◌<◌, suc, ℕ}
 use native.Mathlib.Numerals.{add-one}
 use native.Mathlib.Omega.{arith}
 use lib.ListN.{drop, length}
@@ -28,31 +28,30 @@ use Rattle.running_entry.specs.helpers.Ready.{EntryReady}
 counts : {g : Net} {m ts z : List ℕ} {j k : ℕ} {x : End} → j ≡ k → Runs g m ts j x z → Runs g m ts k x z
 counts {g} {m} {ts} {z} {x} e r = subst (λ (i : ℕ). Runs g m ts i x z) e r
 
--- The record stands at an entry of the list or at its end, and what is left, run from here, gives what the whole run gives.
-pub record Going (n e : ℕ) (from to m₀ list : List ℕ) (rec : RunRecord) (m : List ℕ) : Type 0 where
+-- The record stands after the first i entries, which have fired, and what is left, run from here, gives what the whole run gives.
+pub record Going (n e : ℕ) (from to m₀ list : List ℕ) (i : ℕ) (rec : RunRecord) (m : List ℕ) : Type 0 where
   pub places : rec.places ≡ 3 * n + 2 * e
+  pub next : rec.next ≡ i
   pub counted : rec.fired ≡ rec.next
-  pub within : rec.next ≤ length list
   pub long : length m ≡ length m₀
   pub few : Few n e from to m
   pub left : (k : ℕ) (x : End) (z : List ℕ) → Runs (net_of (wires n e from to)) m (drop rec.next list) k x z
       → Runs (net_of (wires n e from to)) m₀ list (rec.fired + k) x z
 
-pub going_start : {n e : ℕ} {from to m list : List ℕ} → Few n e from to m → Going n e from to m list (record { places = 3 * n + 2 * e; next = 0; fired = 0 }) m
-going_start few = record { places = refl; counted = refl; within = omega arith; long = refl; few = few; left = λ k x z r. counts (omega arith) r }
+pub going_start : {n e : ℕ} {from to m list : List ℕ} → Few n e from to m → Going n e from to m list 0 (record { places = 3 * n + 2 * e; next = 0; fired = 0 }) m
+going_start few = record { places = refl; next = refl; counted = refl; long = refl; few = few; left = λ k x z r. counts (omega arith) r }
 
-module _ {n e : ℕ} {from to m₀ list : List ℕ} {rec : RunRecord} {m : List ℕ} (g : Going n e from to m₀ list rec m) where
+module _ {n e : ℕ} {from to m₀ list : List ℕ} {i : ℕ} {rec : RunRecord} {m : List ℕ} (g : Going n e from to m₀ list i rec m) where
   abbrev net : Net
   net = net_of (wires n e from to)
 
   -- The entry at the record's list position can be taken.
-  pub going_ready : rec.next < length list → EntryReady n from to rec m list
-  going_ready h = record { more = h; counted = omega (arith, g.counted); edges = e; places = g.places; few = g.few }
+  pub going_ready : i < length list → EntryReady n from to rec m list
+  going_ready h = record { more = omega (arith, g.next); counted = omega (arith, g.counted); edges = e; places = g.places; few = g.few }
 
-  pub going_ends : length list ≤ rec.next → Runs (net_of (wires n e from to)) m₀ list rec.fired Done m
+  pub going_ends : i ≡ length list → Runs (net_of (wires n e from to)) m₀ list rec.fired Done m
   going_ends h =
-      let i : rec.next ≡ length list = omega (arith, g.within) in
-      let d : [] ≡ drop rec.next list = sym (ap (λ (j : ℕ). drop j list) i ∙ drop-length list) in
+      let d : [] ≡ drop rec.next list = sym (ap (λ (j : ℕ). drop j list) (g.next ∙ h) ∙ drop-length list) in
       counts (omega arith) (g.left 0 Done m (subst (λ (ts : List ℕ). Runs net m ts 0 Done m) d ends))
 
   module _ {a : Answer} {after : RunRecord} {z : List ℕ} (t : EntryTaken n from to rec m list a after z) where
@@ -72,10 +71,6 @@ module _ {n e : ℕ} {from to m₀ list : List ℕ} {rec : RunRecord} {m : List 
       going_next : after ≡ advanced rec Fired
       going_next = t.entry.moves ∙ ap (advanced rec) f
 
-      -- Less of the list is left.
-      pub going_less : length list - after.next < length list - rec.next
-      going_less = omega (arith, t.entry.inside, ap (λ (r : RunRecord). r.next) going_next)
-
       one : Steps net m (at list rec.next) Fired z
       one = subst (λ (x : Answer). Steps net m (at list rec.next) x z) f step
 
@@ -85,13 +80,13 @@ module _ {n e : ℕ} {from to m₀ list : List ℕ} {rec : RunRecord} {m : List 
           let rest : Runs net z (drop (suc rec.next) list) k x y = subst (λ (ts : List ℕ). Runs net z ts k x y) next r in
           counts (omega arith) (g.left (suc k) x y (subst (λ (ts : List ℕ). Runs net m ts (suc k) x y) here (goes one rest)))
 
-      pub going_on : Going n e from to m₀ list after z
+      pub going_on : Going n e from to m₀ list (i + 1) after z
       going_on =
-          subst (λ (r : RunRecord). Going n e from to m₀ list r z) (sym going_next)
+          subst (λ (r : RunRecord). Going n e from to m₀ list (i + 1) r z) (sym going_next)
           (record {
             places = g.places;
+            next = ap (λ (j : ℕ). j + 1) g.next;
             counted = ap (λ (j : ℕ). j + 1) g.counted;
-            within = omega (arith, t.entry.inside);
             long = going_long;
             few = few_kept g.few (steps_firing step f);
             left = left_on;

@@ -41,17 +41,15 @@ pub fn run_rows<'a>(
         next: 0,
         fired: 0,
     };
-    while rec.next < list.len() {
-        let taken = take(rec, marking, n, from, to, list);
-        let after = taken.rec;
-        let answer = taken.answer;
-        if let Answer::Refused(refusal) = answer {
+    for _ in list {
+        let after = take(rec, marking, n, from, to, list);
+        if let Answer::Refused(refusal) = after.answer {
             return Ran {
-                fired: after.fired,
+                fired: after.rec.fired,
                 end: End::Refused(refusal),
             };
         }
-        rec = after;
+        rec = after.rec;
     }
     Ran {
         fired: rec.fired,

@@ -35,24 +35,23 @@ pub fn entry_core<'a>(
     ensures { EntryTaken n from.now to.now rec marking.old list.now result.answer result.rec
         marking.new }
 {
-    let places = rec.places;
-    let next = rec.next;
-    let answer = step_rows(n, (places - 3 * n) / 2, from, to, marking, list[next]);
-    if let Answer::Fired = answer {
-        let after = RunRecord {
-            places: places,
-            next: next + 1,
+    let answer = step_rows(
+        n,
+        (rec.places - 3 * n) / 2,
+        from,
+        to,
+        marking,
+        list[rec.next],
+    );
+    let rec = match answer {
+        Answer::Fired => RunRecord {
+            next: rec.next + 1,
             fired: rec.fired + 1,
-        };
-        return AfterEntry {
-            rec: after,
-            answer: Answer::Fired,
-        };
-    }
-    AfterEntry {
-        rec: rec,
-        answer: answer,
-    }
+            ..rec
+        },
+        Answer::Refused(_) => rec,
+    };
+    AfterEntry { rec, answer }
 }
 
 // One entry: the record is lent.
@@ -88,8 +87,5 @@ pub fn take<'a>(
 {
     let mut lent = rec;
     let answer = entry(&mut lent, marking, n, from, to, list);
-    AfterEntry {
-        rec: lent,
-        answer: answer,
-    }
+    AfterEntry { rec: lent, answer }
 }
