@@ -24,13 +24,12 @@ pub fn answer<'a>(
     if let Verdict::Refused(refusal) = verdict {
         return Wait::Refused(refusal);
     }
-    let t = transition as usize;
+    let t = usize::from(transition);
     if 3 * n + 1 < t {
         return Wait::Refused(Refusal {
             number: 12,
             place: 0,
         });
     }
-    let w = wait_sum(n, e, from, to, marking, t);
-    Wait::Waits(w)
+    Wait::Waits(wait_sum(n, e, from, to, marking, t))
 }

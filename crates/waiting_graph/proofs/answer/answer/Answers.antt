@@ -15,25 +15,25 @@ pub returns-in-Refused : goal.returns-in-Refused
 returns-in-Refused c =
     let plan : Plan = plotted c.args.n c.args.e c.args.from.now c.args.to.now c.args.mark.now in
     let bytes : List ℕ = c.args.marking.now in
-    answers_row (plan) (bytes) (marking_given (bytes) (plan) c.accepts-verdict.ensures c.in-Refused.is)
+    answers_row plan bytes (marking_given bytes plan c.accepts-verdict.ensures c.in-Refused.is)
 
 pub returns-then-n-t : goal.returns-then-n-t
 returns-then-n-t c =
     let plan : Plan = plotted c.args.n c.args.e c.args.from.now c.args.to.now c.args.mark.now in
     let bytes : List ℕ = c.args.marking.now in
-    let kept : Sound (run_rows (bytes) (plan)) = marking_sound (bytes) (plan) c.accepts-verdict.ensures c.in_default.is in
-    answers_12 (plan) (bytes) (kept) c.if-n-t.true
+    let kept : Sound (run_rows bytes plan) = marking_sound bytes plan c.accepts-verdict.ensures c.in_default.is in
+    answers_12 plan bytes kept (omega arith)
 
-pub wait_sum-w-requires : goal.wait_sum-w-requires
-wait_sum-w-requires c =
+pub wait_sum-requires : goal.wait_sum-requires
+wait_sum-requires c =
     let plan : Plan = plotted c.args.n c.args.e c.args.from.now c.args.to.now c.args.mark.now in
     let bytes : List ℕ = c.args.marking.now in
-    let kept : Sound (run_rows (bytes) (plan)) = marking_sound (bytes) (plan) c.accepts-verdict.ensures c.in_default.is in
-    record { wired = c.requires.wired; joined = c.requires.joined; long = omega (arith, ((kept).kept.0 0 refl).fits); transition = omega arith }
+    let kept : Sound (run_rows bytes plan) = marking_sound bytes plan c.accepts-verdict.ensures c.in_default.is in
+    record { wired = c.requires.wired; joined = c.requires.joined; long = omega (arith, (kept.kept.0 0 refl).fits); transition = omega arith }
 
 pub returns : goal.returns
 returns c =
     let plan : Plan = plotted c.args.n c.args.e c.args.from.now c.args.to.now c.args.mark.now in
     let bytes : List ℕ = c.args.marking.now in
-    let kept : Sound (run_rows (bytes) (plan)) = marking_sound (bytes) (plan) c.accepts-verdict.ensures c.in_default.is in
-    answers_wait (plan) (bytes) (kept) (omega arith) c.wait_sum-w.ensures
+    let kept : Sound (run_rows bytes plan) = marking_sound bytes plan c.accepts-verdict.ensures c.in_default.is in
+    answers_wait plan bytes kept (omega arith) (rw c.from-t.ensures at c.wait_sum.ensures)
