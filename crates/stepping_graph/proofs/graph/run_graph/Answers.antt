@@ -15,18 +15,18 @@ pub returns-in-Refused : goal.returns-in-Refused
 returns-in-Refused c =
     let plan : Plan = plotted c.args.n c.args.e c.args.from.now c.args.to.now c.args.mark.now in
     let bytes : List ℕ = c.args.marking.now in
-    kept (marking_given (bytes) (plan) c.accepts-verdict.ensures c.in-Refused.is)
+    kept (marking_given bytes plan c.accepts-verdict.ensures c.in-Refused.is)
 
 pub run_rows-requires : goal.run_rows-requires
 run_rows-requires c =
     let plan : Plan = plotted c.args.n c.args.e c.args.from.now c.args.to.now c.args.mark.now in
     let bytes : List ℕ = c.args.marking.now in
-    let sound : Sound (run_rows (bytes) (plan)) = marking_sound (bytes) (plan) c.accepts-verdict.ensures c.in_default.is in
-    accepted_few c.requires.wired ((sound).kept.0 0 refl)
+    let sound : Sound (run_rows bytes plan) = marking_sound bytes plan c.accepts-verdict.ensures c.in_default.is in
+    accepted_few c.requires.wired (sound.kept.0 0 refl)
 
 pub returns : goal.returns
 returns c =
     let plan : Plan = plotted c.args.n c.args.e c.args.from.now c.args.to.now c.args.mark.now in
     let bytes : List ℕ = c.args.marking.now in
-    let sound : Sound (run_rows (bytes) (plan)) = marking_sound (bytes) (plan) c.accepts-verdict.ensures c.in_default.is in
-    taken (sound) c.run_rows.ensures
+    let sound : Sound (run_rows bytes plan) = marking_sound bytes plan c.accepts-verdict.ensures c.in_default.is in
+    taken sound c.run_rows.ensures
