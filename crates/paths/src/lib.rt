@@ -9,7 +9,9 @@ ghost use Rattle.net.specs.Limits.{longest_time, most_edges, most_operations};
 ghost use Rattle.net.specs.Good.{Good};
 ghost use Rattle.paths.specs.helpers.Answers.{SumsOf};
 ghost use Rattle.paths.specs.helpers.Latest.{Latest};
+ghost use Rattle.net.specs.helpers.Tables.{accepted_over, IsGood};
 
+use net::rows::Accepted;
 use net::{EDGES, NODES, OPERATIONS};
 use paths_finish::finishes;
 
@@ -44,21 +46,13 @@ fn all_times(n: usize, times: &[u32; OPERATIONS]) -> u32
 }
 
 // TBIO is when the data sink is reached, TT when the last sink is, and TCE the sum of all times.
-pub fn path_sums(
-    n: usize,
-    e: usize,
-    times: &[u32; OPERATIONS],
-    from: &[u8; EDGES],
-    to: &[u8; EDGES],
-    mark: &[u8; EDGES],
-    buffers: &[u8; EDGES],
-) -> Sums
-    requires { Good n e times.now from.now to.now mark.now buffers.now }
-    ensures { SumsOf n e times.now from.now to.now mark.now buffers.now result }
+pub fn path_sums(g: &Accepted) -> Sums
+    requires { IsGood g.now }
+    ensures { accepted_over SumsOf g.now result }
 {
-    let finish = finishes(n, e, times, from, to, mark, buffers);
-    let tbio = finish[n + 1];
-    let tt = latest(n, e, from, mark, &finish);
-    let tce = all_times(n, times);
+    let finish = finishes(g);
+    let tbio = finish[g.plotted.wiring.operations + 1];
+    let tt = latest(g.plotted.wiring.operations, g.plotted.wiring.edges, g.plotted.wiring.from, g.plotted.mark, &finish);
+    let tce = all_times(g.plotted.wiring.operations, g.times);
     Sums { tbio, tt, tce }
 }

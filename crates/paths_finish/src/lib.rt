@@ -1,22 +1,26 @@
 // When each node is done, if nothing but data is waited for: longest paths, by raising the targets of the edges until nothing changes.
 #![tactic(auto)]
 
-ghost use Rattle.std.specs.Prelude.{◌≡◌, ◌<◌, ◌≤◌};
+ghost use Rattle.std.specs.Prelude.{◌≡◌, ◌<◌};
 ghost use Rattle.marked.specs.Net.{at};
 ghost use Rattle.net.specs.Plan.{time_at};
 ghost use Rattle.paths_finish.specs.Modified.{node_time};
-ghost use Rattle.net.specs.Limits.{most_nodes, most_operations};
-ghost use Rattle.net.specs.Good.{Good};
-ghost use Rattle.paths_finish.specs.helpers.Finishing.{AllDone, Backed, EdgesSwept, Finished, Lifted, done_by};
+ghost use Rattle.net.specs.Limits.{most_nodes};
+ghost use Rattle.paths_finish.specs.helpers.Finishing.{AllDone, Backed, EdgesSwept, Finished, Lifted, offered_by};
+ghost use Rattle.net.specs.helpers.Tables.{accepted_over, IsGood};
 
-use net::{EDGES, NODES, OPERATIONS};
+use net::NODES;
+use net::rows::Accepted;
 
 // The time of node v: an operation's own, and none for the source and the sink.
-fn node_time(n: usize, times: &[u32; OPERATIONS], v: usize) -> u32
-    requires { n ≤ most_operations }
-    ensures { result ≡ node_time n (time_at times.now) v }
+fn node_time(g: &Accepted, v: usize) -> u32
+    ensures { result ≡ node_time g.now.plotted.wiring.operations (time_at g.now.times.now) v }
 {
-    if 0 < v && v <= n { times[v - 1] } else { 0 }
+    if 0 < v && v <= g.plotted.wiring.operations {
+        g.times[v - 1]
+    } else {
+        0
+    }
 }
 
 // Raises node v's entry to x where it is lower. The answer is whether an entry has changed, now or before.
@@ -33,28 +37,17 @@ fn lift(finish: &mut [u32; NODES], v: usize, x: u32, changed: bool) -> bool
 }
 
 // Raises the target of edge k to what the edge offers: an unmarked edge waits for its origin, a marked one starts with its data.
-fn raise(
-    n: usize,
-    e: usize,
-    k: usize,
-    times: &[u32; OPERATIONS],
-    from: &[u8; EDGES],
-    to: &[u8; EDGES],
-    mark: &[u8; EDGES],
-    buffers: &[u8; EDGES],
-    finish: &mut [u32; NODES],
-    changed: bool,
-) -> bool
-    requires backed { Backed n e times.now from.now to.now mark.now buffers.now finish.old }
-    requires k_lt_e { k < e }
-    ensures { Lifted finish.old (at to.now k)
-        (done_by n times.now from.now to.now mark.now finish.old k) changed
-        finish.new result }
+fn raise(g: &Accepted, k: usize, finish: &mut [u32; NODES], changed: bool) -> bool
+    requires backed { accepted_over Backed g.now finish.old }
+    requires k_lt_e { k < g.now.plotted.wiring.edges }
+    ensures { Lifted finish.old (at g.now.plotted.wiring.to.now k)
+        (offered_by g.now finish.old k) changed finish.new result }
 {
-    let b = usize::from(to[k]);
-    let own = node_time(n, times, b);
-    let x = if mark[k] == 0 {
-        finish[usize::from(from[k])] + own
+    let wiring = &g.plotted.wiring;
+    let b = usize::from(wiring.to[k]);
+    let own = node_time(g, b);
+    let x = if g.plotted.mark[k] == 0 {
+        finish[usize::from(wiring.from[k])] + own
     } else {
         own
     };
@@ -62,58 +55,32 @@ fn raise(
 }
 
 // Every edge once.
-fn sweep(
-    n: usize,
-    e: usize,
-    times: &[u32; OPERATIONS],
-    from: &[u8; EDGES],
-    to: &[u8; EDGES],
-    mark: &[u8; EDGES],
-    buffers: &[u8; EDGES],
-    finish: &mut [u32; NODES],
-) -> bool
-    requires { Backed n e times.now from.now to.now mark.now buffers.now finish.old }
-    ensures { EdgesSwept n e times.now from.now to.now mark.now buffers.now e
+fn sweep(g: &Accepted, finish: &mut [u32; NODES]) -> bool
+    requires { accepted_over Backed g.now finish.old }
+    ensures { accepted_over EdgesSwept g.now g.now.plotted.wiring.edges
         finish.old finish.new result }
 {
     let mut changed = false;
-    for k in 0..e {
-        changed = raise(n, e, k, times, from, to, mark, buffers, finish, changed);
+    for k in 0..g.plotted.wiring.edges {
+        changed = raise(g, k, finish, changed);
     }
     changed
 }
 
 // Sweeps until one changes nothing. No path comes to an operation twice, so this ends.
-fn settle(
-    n: usize,
-    e: usize,
-    times: &[u32; OPERATIONS],
-    from: &[u8; EDGES],
-    to: &[u8; EDGES],
-    mark: &[u8; EDGES],
-    buffers: &[u8; EDGES],
-    finish: &mut [u32; NODES],
-)
-    requires { Backed n e times.now from.now to.now mark.now buffers.now finish.old }
-    ensures { AllDone n e times.now from.now to.now mark.now buffers.now finish.new }
+fn settle(g: &Accepted, finish: &mut [u32; NODES])
+    requires { accepted_over Backed g.now finish.old }
+    ensures { accepted_over AllDone g.now finish.new }
 {
-    while sweep(n, e, times, from, to, mark, buffers, finish) {}
+    while sweep(g, finish) {}
 }
 
 // When each node is done if nothing but data is waited for: the largest sum on a path from the source.
-pub fn finishes(
-    n: usize,
-    e: usize,
-    times: &[u32; OPERATIONS],
-    from: &[u8; EDGES],
-    to: &[u8; EDGES],
-    mark: &[u8; EDGES],
-    buffers: &[u8; EDGES],
-) -> [u32; NODES]
-    requires { Good n e times.now from.now to.now mark.now buffers.now }
-    ensures { Finished n e times.now from.now to.now mark.now buffers.now result }
+pub fn finishes(g: &Accepted) -> [u32; NODES]
+    requires { IsGood g.now }
+    ensures { accepted_over Finished g.now result }
 {
     let mut finish = [0; NODES];
-    settle(n, e, times, from, to, mark, buffers, &mut finish);
+    settle(g, &mut finish);
     finish
 }

@@ -5,6 +5,7 @@ use Rattle.net.specs.Limits.{most_nodes}
 use Rattle.net.specs.Plan.{Plan, rows, time_at}
 use Rattle.net.specs.Ends.{pick}
 use Rattle.net.specs.Good.{Good}
+use Rattle.net.specs.declared.rows.Accepted.{Accepted}
 use Rattle.marked.specs.Sums.{total}
 use Rattle.paths_finish.specs.Modified.{Path, node_time, path_time}
 use Rattle.paths_finish.specs.Longest.{Longest}
@@ -26,6 +27,11 @@ pub record Backed (n e : ℕ) (times from to mark buffers finish : List ℕ) : T
 -- when its origin is done.
 unfoldable pub done_by : ℕ → List ℕ → List ℕ → List ℕ → List ℕ → List ℕ → ℕ → ℕ
 done_by n times from to mark finish k = pick (eqb (at mark k) 0) (at finish (at from k)) 0 + node_time n (time_at times) (at to k)
+
+-- The same of a graph whose rules are kept.
+abbrev pub offered_by : Accepted → List ℕ → ℕ → ℕ
+offered_by g finish k =
+    done_by g.plotted.wiring.operations g.times.now g.plotted.wiring.from.now g.plotted.wiring.to.now g.plotted.mark.now finish k
 
 -- The entry of v is raised to x and the flag set, or both are kept.
 pub data Lifted (d : List ℕ) (v x : ℕ) (before : Bool) : List ℕ → Bool → Type 0 where
