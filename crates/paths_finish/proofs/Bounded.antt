@@ -2,10 +2,12 @@
 use mathlib.Core.Path.{◌≡◌, ap, refl}
 use mathlib.Core.List.{List, [], ◌∷◌}
 use Prim.Native.Nat.{◌*◌, ◌+◌, ◌-◌, ◌≤◌, suc, zero, ℕ}
+use native.Mathlib.Decide.{dec_lt}
 use native.Mathlib.Numerals.{add-one}
 use native.Mathlib.Omega.{arith}
-use lib.ListN.{length, take}
+use lib.ListN.{get_or-eq_default, length, take}
 use Rattle.std.specs.List.{sum_by}
+use Rattle.std.proofs.lemmas.List.{take_all}
 use Rattle.std.proofs.lemmas.List.Sums.{sum_by_more}
 use Rattle.marked.specs.Sums.{sum, total, upto}
 use Rattle.marked.specs.Net.{at}
@@ -17,12 +19,23 @@ use Rattle.paths_finish.proofs.Distinct.{path_effort}
 use Rattle.paths_finish.proofs.Passing.{Passing, good_passing}
 
 -- The times of the operations are the first entries.
-pub times_sum : (times : List ℕ) (n : ℕ) → n ≤ length times → sum_by (λ (x : ℕ). x) (take n times) ≡ upto (λ (i : ℕ). time_at times (i + 1)) n
+pub times_sum : (times : List ℕ) (n : ℕ) → sum_by (λ (x : ℕ). x) (take n times) ≡ upto (λ (i : ℕ). time_at times (i + 1)) n
 unfolding upto
-times_sum times zero h = refl
-times_sum times (suc n) h =
+times_sum times zero = refl
+times_sum times (suc n) =
+    let S : List ℕ → ℕ = λ xs. sum_by (λ (x : ℕ). x) xs in
     let same : n + 1 - 1 ≡ n = omega arith in
-    rw (← add-one n) (omega (arith, sum_by_more (λ (x : ℕ). x) times n 0 h, times_sum times n (omega arith), ap (at times) same))
+    rw (← add-one n) (elim (dec_lt n (length times)) [
+      | yes l ↦ omega (arith, sum_by_more (λ (x : ℕ). x) times n 0 l, times_sum times n, ap (at times) same)
+      | no l ↦ omega (
+        arith,
+        ap S (take_all (n + 1) times (omega arith)),
+        ap S (take_all n times (omega arith)),
+        get_or-eq_default times 0 {n = n} (omega arith),
+        times_sum times n,
+        ap (at times) same,
+      )
+    ])
 
 pub times_most : (f : ℕ → ℕ) (m n : ℕ) → ((i : ℕ) → 1 ≤ i → i ≤ n → f i ≤ m) → upto (λ (i : ℕ). f (i + 1)) n ≤ n * m
 times_most f m n h = upto_most (λ (i : ℕ). f (i + 1)) m n (λ i l. h (i + 1) (omega arith) (omega arith))

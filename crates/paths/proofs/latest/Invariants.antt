@@ -3,4 +3,4 @@ use Rattle.paths.specs.helpers.Latest.{Latest}
 use Rattle.paths.proofs.latest.Given as goal
 
 abbrev pub invariant-loop-k : goal.invariant-loop-k
-invariant-loop-k l = Latest l.n l.from l.mark l.finish l.k l.most
+invariant-loop-k l = Latest l.g.plotted.wiring.operations l.g.plotted.wiring.from.now l.g.plotted.mark.now l.finish l.k l.most
