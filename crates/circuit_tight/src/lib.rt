@@ -169,9 +169,7 @@ fn list_ops(
         d.now (3 * n) 0 head.old next.old src.old dst.old
         head.new next.new src.new dst.new }
 {
-    let mut i = n;
-    while i > 0 {
-        i -= 1;
+    for i in (0..n).rev() {
         list_op(
             n, e, i, from, to, marking, times, a, b, d, head, next, src, dst,
         );
@@ -201,9 +199,7 @@ fn list_edges(
         d.now (3 * n + 2 * e) (3 * n) head.old next.old src.old dst.old
         head.new next.new src.new dst.new }
 {
-    let mut k = e;
-    while k > 0 {
-        k -= 1;
+    for k in (0..e).rev() {
         list_edge(
             n, e, k, from, to, marking, times, a, b, d, head, next, src, dst,
         );

@@ -5,15 +5,14 @@ use Rattle.circuit_tight.proofs.Listings.{longer_none, longer_then, longer_to}
 use Rattle.circuit_tight.proofs.list_ops.Goals as goal
 
 pub loop-i-init : goal.loop-i-init
-loop-i-init c = (omega arith, longer_none c.requires.whole)
+loop-i-init c = longer_none c.requires.whole
 
 pub list_op-requires : goal.list_op-requires
 list_op-requires c =
-    record { weighted = c.requires.weighted; i_lt_n = (omega (arith, c.loop-i.invariant.0), c.requires.pair.0, c.requires.pair.1); whole = c.loop-i.invariant.1.whole }
+    record { weighted = c.requires.weighted; i_lt_n = (omega arith, c.requires.pair.0, c.requires.pair.1); whole = c.loop-i.invariant.whole }
 
 pub loop-i-preserved : goal.loop-i-preserved
-loop-i-preserved c =
-    (omega (arith, c.loop-i.invariant.0), longer_then c.loop-i.invariant.1 (longer_to (omega arith) refl c.list_op.ensures))
+loop-i-preserved c = longer_then c.loop-i.invariant (longer_to (omega arith) refl c.list_op.ensures)
 
 pub returns : goal.returns
-returns c = longer_to refl (omega arith) c.loop-i.invariant.1
+returns c = longer_to refl (omega arith) c.loop-i.invariant
