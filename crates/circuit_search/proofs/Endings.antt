@@ -99,5 +99,5 @@ module _ {nt np : ℕ} {src dst : List ℕ} where
     pub lowest_yes : {w : List ℕ} {r : Bool} → Tried nt np src dst p w r → r ≡ true → LowestBack nt np src dst w p
     lowest_yes t e = record { most = m.most; below = m.none; fits = λ h. t.fits e; noted = λ h. t.yes e }
 
-    pub lowest_none : (p < np → ⊥) → LowestBack nt np src dst via p
-    lowest_none f = record { most = m.most; below = m.none; fits = λ h. absurd (f h); noted = λ h. absurd (f h) }
+    pub lowest_none : np ≤ p → LowestBack nt np src dst via np
+    lowest_none f = record { most = omega arith; below = λ q h. m.none q (omega arith); fits = λ h. absurd (omega arith); noted = λ h. absurd (omega arith) }

@@ -6,7 +6,6 @@ ghost use Rattle.net.specs.Limits.{most_transitions};
 ghost use Rattle.circuit_tight.specs.helpers.Lists.{Headed, Threaded, Listed};
 ghost use Rattle.circuit_search.specs.helpers.Turns.{LowestBack, Sought, Tried, Turned, Under};
 
-use casts::{byte_index, word_index};
 use circuit_tight::LOOSE;
 use net::{PLACES, TRANSITIONS};
 
@@ -37,17 +36,17 @@ fn turn(
     ensures { Turned nt np src.now dst.now root goal cur.old seen.new via.new
         cur.new result }
 {
-    let q = word_index(cur[x]);
+    let q = usize::from(cur[x]);
     if q == np {
         cur[x] = (np + 1) as u16;
         if x == root {
             return Move::GivenUp;
         }
-        let p = word_index(via[x]) - 1;
-        return Move::At(byte_index(src[p]));
+        let p = usize::from(via[x]) - 1;
+        return Move::At(usize::from(src[p]));
     }
     cur[x] = next[q];
-    let y = byte_index(dst[q]);
+    let y = usize::from(dst[q]);
     if y == goal {
         via[y] = (q + 1) as u16;
         return Move::Reached;
@@ -76,8 +75,8 @@ fn search(
     requires p_lt_np { (p < np) × Listed dst.now p × (length via.old ≡ most_transitions) }
     ensures { Sought nt np src.now dst.now p via.new result }
 {
-    let goal = byte_index(src[p]);
-    let root = byte_index(dst[p]);
+    let goal = usize::from(src[p]);
+    let root = usize::from(dst[p]);
     let mut seen = [0u8; TRANSITIONS];
     let mut cur = *head;
     seen[root] = 1;
@@ -87,15 +86,9 @@ fn search(
             nt, np, next, src, dst, root, goal, x, &mut seen, via, &mut cur,
         );
         match m {
-            Move::At(y) => {
-                x = y;
-            }
-            Move::Reached => {
-                return true;
-            }
-            Move::GivenUp => {
-                return false;
-            }
+            Move::At(y) => x = y,
+            Move::Reached => return true,
+            Move::GivenUp => return false,
         }
     }
 }
@@ -137,12 +130,10 @@ pub fn first(
     requires via_len { length via.old ≡ most_transitions }
     ensures { LowestBack nt np src.now dst.now via.new result }
 {
-    let mut p = 0;
-    while p < np {
+    for p in 0..np {
         if returns_to(nt, np, head, next, src, dst, p, via) {
             return p;
         }
-        p += 1;
     }
-    p
+    np
 }

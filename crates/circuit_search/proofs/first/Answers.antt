@@ -1,5 +1,4 @@
 -- The invariant: no listed place below p has a way back.
-use Prim.Native.Nat.{◌-◌}
 use native.Mathlib.Omega.{arith}
 use Rattle.circuit_search.proofs.Endings.{lowest_none, lowest_yes, missed_on, missed_start}
 use Rattle.circuit_search.proofs.first.Goals as goal
@@ -14,11 +13,8 @@ returns_to-requires c =
 pub returns-then-returns_to : goal.returns-then-returns_to
 returns-then-returns_to c = lowest_yes c.loop-p.invariant c.returns_to.ensures c.if-returns_to.true
 
-pub overflow_add-p : goal.overflow_add-p
-overflow_add-p c = omega (arith, c.requires.threaded.many)
-
 pub loop-p-preserved : goal.loop-p-preserved
 loop-p-preserved c = missed_on c.loop-p.invariant (omega arith) c.returns_to.ensures c.if-returns_to.false
 
 pub returns : goal.returns
-returns c = lowest_none c.loop-p.invariant (λ h. omega arith)
+returns c = lowest_none c.loop-p.invariant (omega arith)

@@ -7,26 +7,19 @@ use Rattle.circuit_search.proofs.search.Goals as goal
 pub bounds-src-p : goal.bounds-src-p
 bounds-src-p c = omega (arith, c.requires.threaded.many, c.requires.p_lt_np.0)
 
-pub byte_index-goal-requires : goal.byte_index-goal-requires
-byte_index-goal-requires c = tt
-
 pub bounds-dst-p : goal.bounds-dst-p
 bounds-dst-p c = omega (arith, c.requires.threaded.many, c.requires.p_lt_np.0)
 
-pub byte_index-root-requires : goal.byte_index-root-requires
-byte_index-root-requires c = tt
-
 pub bounds-seen-root : goal.bounds-seen-root
 bounds-seen-root c =
-    omega (arith, c.requires.threaded.enters c.args.p c.requires.p_lt_np.0 c.requires.p_lt_np.1, c.byte_index-root.ensures.0, c.requires.threaded.few)
+    omega (arith, c.requires.threaded.enters c.args.p c.requires.p_lt_np.0 c.requires.p_lt_np.1, c.from-root.ensures, c.requires.threaded.few)
 
 pub loop-y-init : goal.loop-y-init
 loop-y-init c =
-    let number = c.byte_index-goal in
     let enters = c.requires.threaded.enters c.args.p c.requires.p_lt_np.0 c.requires.p_lt_np.1 in
     let apart = c.requires.threaded.apart c.args.p c.requires.p_lt_np.0 c.requires.p_lt_np.1 in
-    let root = c.byte_index-root.ensures.0 in
-    under_start c.requires.threaded c.requires.headed (omega (arith, enters, root)) (λ z. apart (sym number.ensures.0 ∙ z ∙ root)) c.requires.p_lt_np.2
+    let root = c.from-root.ensures in
+    under_start c.requires.threaded c.requires.headed (omega (arith, enters, root)) (λ z. apart (sym c.from-goal.ensures ∙ z ∙ root)) c.requires.p_lt_np.2
 
 pub turn-m-requires : goal.turn-m-requires
 turn-m-requires c = record { threaded = c.requires.threaded; under = c.loop-y.invariant }
@@ -41,8 +34,8 @@ loop-y-preserved c = outcome_at c.turn-m.ensures.outcome c.in-At.is
 
 pub returns-in-Reached : goal.returns-in-Reached
 returns-in-Reached c =
-    sought_yes c.byte_index-root.ensures.0 c.byte_index-goal.ensures.0 (outcome_got c.turn-m.ensures.outcome c.in-Reached.is)
+    sought_yes c.from-root.ensures c.from-goal.ensures (outcome_got c.turn-m.ensures.outcome c.in-Reached.is)
 
 pub returns-in-GivenUp : goal.returns-in-GivenUp
 returns-in-GivenUp c =
-    sought_no c.byte_index-root.ensures.0 c.byte_index-goal.ensures.0 (outcome_gone c.turn-m.ensures.outcome c.in-GivenUp.is)
+    sought_no c.from-root.ensures c.from-goal.ensures (outcome_gone c.turn-m.ensures.outcome c.in-GivenUp.is)

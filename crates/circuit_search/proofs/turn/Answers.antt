@@ -19,9 +19,8 @@ bounds-cur-x-then-q-np c = omega (arith, stands c.requires.threaded c.requires.u
 
 pub returns-then-x-root : goal.returns-then-x-root
 returns-then-x-root c =
-    let index = c.word_index-q in
     record {
-      outcome = gone (no_way c.requires.threaded c.requires.under index.ensures.0 c.if-q-np.true c.if-x-root.true) c.requires.under.deep;
+      outcome = gone (no_way c.requires.threaded c.requires.under c.from-q.ensures c.if-q-np.true c.if-x-root.true) c.requires.under.deep;
       further = further c.requires.threaded c.requires.under (omega (arith, still c.requires.threaded c.requires.under));
     }
 
@@ -33,20 +32,20 @@ bounds-via-x c = omega (arith, stands c.requires.threaded c.requires.under, c.re
 
 pub overflow_sub-p : goal.overflow_sub-p
 overflow_sub-p c =
-    (noted_place c.requires.threaded c.requires.under c.word_index-q.ensures.0 c.if-q-np.true c.if-x-root.false c.word_index-p.ensures.0).0
+    (noted_place c.requires.threaded c.requires.under c.from-q.ensures c.if-q-np.true c.if-x-root.false c.from-p.ensures).0
 
 pub bounds-src-p : goal.bounds-src-p
 bounds-src-p c =
-    omega (arith, (noted_place c.requires.threaded c.requires.under c.word_index-q.ensures.0 c.if-q-np.true c.if-x-root.false c.word_index-p.ensures.0).1, c.requires.threaded.many)
+    omega (arith, (noted_place c.requires.threaded c.requires.under c.from-q.ensures c.if-q-np.true c.if-x-root.false c.from-p.ensures).1, c.requires.threaded.many)
 
 pub returns-then-q-np : goal.returns-then-q-np
 returns-then-q-np c =
-    let back = step_back c.requires.threaded c.requires.under c.word_index-q.ensures.0 c.if-q-np.true c.if-x-root.false c.word_index-p.ensures.0 c.byte_index.ensures.0 in
+    let back = step_back c.requires.threaded c.requires.under c.from-q.ensures c.if-q-np.true c.if-x-root.false c.from-p.ensures c.from.ensures in
     record { outcome = moved back; further = further c.requires.threaded c.requires.under (omega (arith, still c.requires.threaded c.requires.under)) }
 
 pub bounds-next-q : goal.bounds-next-q
 bounds-next-q c =
-    omega (arith, less c.requires.threaded c.requires.under c.word_index-q.ensures.0 c.if-q-np.false, c.requires.threaded.many)
+    omega (arith, less c.requires.threaded c.requires.under c.from-q.ensures c.if-q-np.false, c.requires.threaded.many)
 
 pub offset_bounds-cur-x-2 : goal.offset_bounds-cur-x-2
 offset_bounds-cur-x-2 c = omega (arith, stands c.requires.threaded c.requires.under)
@@ -56,46 +55,45 @@ bounds-cur-x-2 c = omega (arith, stands c.requires.threaded c.requires.under, c.
 
 pub bounds-dst-q : goal.bounds-dst-q
 bounds-dst-q c =
-    let index = c.word_index-q in
-    omega (arith, less c.requires.threaded c.requires.under index.ensures.0 c.if-q-np.false, c.requires.threaded.many)
+    omega (arith, less c.requires.threaded c.requires.under c.from-q.ensures c.if-q-np.false, c.requires.threaded.many)
 
 pub overflow_cast-via : goal.overflow_cast-via
 overflow_cast-via c =
-    omega (arith, less c.requires.threaded c.requires.under c.word_index-q.ensures.0 c.if-q-np.false, c.requires.threaded.many)
+    omega (arith, less c.requires.threaded c.requires.under c.from-q.ensures c.if-q-np.false, c.requires.threaded.many)
 
 pub bounds-via-y : goal.bounds-via-y
 bounds-via-y c =
-    omega (arith, leads_in c.requires.threaded c.requires.under c.word_index-q.ensures.0 c.if-q-np.false c.byte_index-y.ensures.0, c.requires.threaded.few, c.requires.under.deep)
+    omega (arith, leads_in c.requires.threaded c.requires.under c.from-q.ensures c.if-q-np.false c.from-y.ensures, c.requires.threaded.few, c.requires.under.deep)
 
 pub returns-then-y-goal : goal.returns-then-y-goal
 returns-then-y-goal c =
-    let there = arrive c.requires.threaded c.requires.under c.word_index-q.ensures.0 c.if-q-np.false c.byte_index-y.ensures.0 c.if-y-goal.true in
-    record { outcome = got there.0 there.1; further = further c.requires.threaded c.requires.under (beyond c.requires.threaded c.requires.under c.word_index-q.ensures.0 c.if-q-np.false) }
+    let there = arrive c.requires.threaded c.requires.under c.from-q.ensures c.if-q-np.false c.from-y.ensures c.if-y-goal.true in
+    record { outcome = got there.0 there.1; further = further c.requires.threaded c.requires.under (beyond c.requires.threaded c.requires.under c.from-q.ensures c.if-q-np.false) }
 
 pub bounds-seen-y : goal.bounds-seen-y
 bounds-seen-y c =
-    omega (arith, leads_in c.requires.threaded c.requires.under c.word_index-q.ensures.0 c.if-q-np.false c.byte_index-y.ensures.0, c.requires.threaded.few, c.requires.under.wide)
+    omega (arith, leads_in c.requires.threaded c.requires.under c.from-q.ensures c.if-q-np.false c.from-y.ensures, c.requires.threaded.few, c.requires.under.wide)
 
 pub returns-then-seen-y-ne0 : goal.returns-then-seen-y-ne0
 returns-then-seen-y-ne0 c =
-    let next = beyond c.requires.threaded c.requires.under c.word_index-q.ensures.0 c.if-q-np.false in
-    let past = pass c.requires.threaded c.requires.under c.word_index-q.ensures.0 c.if-q-np.false c.byte_index-y.ensures.0 c.if-seen-y-ne0.true in
+    let next = beyond c.requires.threaded c.requires.under c.from-q.ensures c.if-q-np.false in
+    let past = pass c.requires.threaded c.requires.under c.from-q.ensures c.if-q-np.false c.from-y.ensures c.if-seen-y-ne0.true in
     record { outcome = moved past; further = further c.requires.threaded c.requires.under next }
 
 pub bounds-seen-y-2 : goal.bounds-seen-y-2
 bounds-seen-y-2 c =
-    omega (arith, leads_in c.requires.threaded c.requires.under c.word_index-q.ensures.0 c.if-q-np.false c.byte_index-y.ensures.0, c.requires.threaded.few, c.requires.under.wide)
+    omega (arith, leads_in c.requires.threaded c.requires.under c.from-q.ensures c.if-q-np.false c.from-y.ensures, c.requires.threaded.few, c.requires.under.wide)
 
 pub overflow_cast-via-2 : goal.overflow_cast-via-2
 overflow_cast-via-2 c =
-    omega (arith, less c.requires.threaded c.requires.under c.word_index-q.ensures.0 c.if-q-np.false, c.requires.threaded.many)
+    omega (arith, less c.requires.threaded c.requires.under c.from-q.ensures c.if-q-np.false, c.requires.threaded.many)
 
 pub bounds-via-y-2 : goal.bounds-via-y-2
 bounds-via-y-2 c =
-    omega (arith, leads_in c.requires.threaded c.requires.under c.word_index-q.ensures.0 c.if-q-np.false c.byte_index-y.ensures.0, c.requires.threaded.few, c.requires.under.deep)
+    omega (arith, leads_in c.requires.threaded c.requires.under c.from-q.ensures c.if-q-np.false c.from-y.ensures, c.requires.threaded.few, c.requires.under.deep)
 
 pub returns : goal.returns
 returns c =
-    let next = beyond c.requires.threaded c.requires.under c.word_index-q.ensures.0 c.if-q-np.false in
-    let onward = go_on c.requires.threaded c.requires.under c.word_index-q.ensures.0 c.if-q-np.false c.byte_index-y.ensures.0 c.if-seen-y-ne0.false (λ z. c.if-y-goal.false (sym z)) in
+    let next = beyond c.requires.threaded c.requires.under c.from-q.ensures c.if-q-np.false in
+    let onward = go_on c.requires.threaded c.requires.under c.from-q.ensures c.if-q-np.false c.from-y.ensures c.if-seen-y-ne0.false (λ z. c.if-y-goal.false (sym z)) in
     record { outcome = moved onward; further = further c.requires.threaded c.requires.under next }
