@@ -60,20 +60,22 @@ module _ {g : Net} {T : ℕ → Type 0} {root goal : ℕ} {N : ℕ → ℕ} wher
 
 -- The trace from x back to root is still to come; what lies behind x is done.
 pub record Climb (nt np : ℕ) (src dst : List ℕ) (root goal : ℕ) (via : List ℕ) (x : ℕ) : Type 0 where
+  pub begins : root < nt
   pub noted : FirstNoted (drawn nt np src dst) (Listed dst) root goal (at via)
   pub rest : List ℕ
   pub done : List ℕ
   pub trace : Trace (drawn nt np src dst) (Listed dst) root goal (at via) x rest
   pub parts : noted.way ≡ rest ++ done
 
-abbrev pub climb_start : {nt np : ℕ} {src dst : List ℕ} {root goal : ℕ} (via : List ℕ) → FirstNoted (drawn nt np src dst) (Listed dst) root goal (at via) → Climb nt np src dst root goal via goal
-climb_start via n = record { noted = n; rest = n.way; done = []; trace = n.trace; parts = sym (append-nil n.way) }
+abbrev pub climb_start : {nt np : ℕ} {src dst : List ℕ} {root goal : ℕ} (via : List ℕ) → root < nt → FirstNoted (drawn nt np src dst) (Listed dst) root goal (at via) → Climb nt np src dst root goal via goal
+climb_start via l n = record { begins = l; noted = n; rest = n.way; done = []; trace = n.trace; parts = sym (append-nil n.way) }
 
 -- One place back.
 abbrev pub climb_on :
     {nt np : ℕ} {src dst : List ℕ} {root goal : ℕ} {via : List ℕ} {x r y : ℕ} → (c : Climb nt np src dst root goal via x) → x ≢ root → r ≡ at via x → y ≡ at src (r - 1)
     → Climb nt np src dst root goal via y
 climb_on {nt} {np} {src} {dst} {root} {goal} {via} {x} {r} {y} c f e ey = record {
+  begins = c.begins;
   noted = c.noted;
   rest = (last c.trace f).rest;
   done = (r - 1) ∷ c.done;
@@ -88,9 +90,9 @@ climb_on {nt} {np} {src} {dst} {root} {goal} {via} {x} {r} {y} c f e ey = record
       ∙ ap (λ (u : ℕ). (last c.trace f).rest ++ (u ∷ c.done)) (note_place e (last c.trace f).note);
 }
 
-module _ {nt np : ℕ} {next src dst : List ℕ} (o : Threaded nt np next src dst) {root goal : ℕ} (l : root < nt) {via : List ℕ} {x : ℕ} (c : Climb nt np src dst root goal via x) where
+module _ {nt np : ℕ} {next src dst : List ℕ} (o : Threaded nt np next src dst) {root goal : ℕ} {via : List ℕ} {x : ℕ} (c : Climb nt np src dst root goal via x) where
   trace_in : {y : ℕ} {ts : List ℕ} → Trace (drawn nt np src dst) (Listed dst) root goal (at via) y ts → y < nt
-  trace_in start = l
+  trace_in start = c.begins
   trace_in (step q t h i m) = o.enters q h i
 
   pub climb_in : x < nt

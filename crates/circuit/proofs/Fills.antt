@@ -22,14 +22,14 @@ pub record Fill (nt np : ℕ) (src dst : List ℕ) (root goal : ℕ) (via before
   pub others : (j : ℕ) → len ≤ j → at ring j ≡ at before j
   pub long : length ring ≡ length before
 
-pub fill_start : {nt np : ℕ} {src dst : List ℕ} {root goal : ℕ} {via before : List ℕ} {k : ℕ} → WayCounted nt np src dst root goal via k → Fill nt np src dst root goal via before before goal k k
-fill_start {via = via} m = record { climb = climb_start via m.noted; whole = m.count; count = omega (arith, m.count); slots = λ j h. absurd (omega arith); others = λ j h. refl; long = refl }
+pub fill_start : {nt np : ℕ} {src dst : List ℕ} {root goal : ℕ} {via before : List ℕ} {k : ℕ} → root < nt → WayCounted nt np src dst root goal via k → Fill nt np src dst root goal via before before goal k k
+fill_start {via = via} l m = record { climb = climb_start via l m.noted; whole = m.count; count = omega (arith, m.count); slots = λ j h. absurd (omega arith); others = λ j h. refl; long = refl }
 
 module _
-    {nt np : ℕ} {next src dst : List ℕ} (o : Threaded nt np next src dst) {root goal : ℕ} (l : root < nt) {via before ring : List ℕ} {x k len : ℕ}
+    {nt np : ℕ} {next src dst : List ℕ} (o : Threaded nt np next src dst) {root goal : ℕ} {via before ring : List ℕ} {x k len : ℕ}
     (c : Fill nt np src dst root goal via before ring x k len) (small : nt ≤ length before) where
   pub fill_left : x ≢ root → (2 ≤ k) × (k ≤ nt)
-  fill_left f = climb_left o l c.climb c.count f
+  fill_left f = climb_left o c.climb c.count f
 
   pub fill_on : {r y : ℕ} → x ≢ root → r ≡ at via x → y ≡ at src (r - 1) → Fill nt np src dst root goal via before (set ring (k - 1) (r - 1)) y (k - 1) len
   fill_on {r} {y} f e ey =
@@ -52,7 +52,7 @@ module _
   -- At the root the first place is written too.
   pub fill_end : {p : ℕ} → root ≡ at dst p → goal ≡ at src p → root ≢ goal → x ≡ root → Written nt np src dst p before len (set ring 0 p)
   fill_end {p} er eg f e =
-      let z : way ≡ c.climb.done = climb_end o l c.climb f e in
+      let z : way ≡ c.climb.done = climb_end o c.climb f e in
       let k1 : k ≡ 1 = omega (arith, c.count, ap length z) in
       record {
         way = way;
@@ -65,7 +65,7 @@ module _
       way = c.climb.noted.way
 
       short : 1 + length way ≤ nt
-      short = way_short o l c.climb
+      short = way_short o c.climb
 
       lengths : length (set ring 0 p) ≡ length ((p ∷ way) ++ drop len before)
       lengths = length-set ring 0 p ∙ c.long ∙ simp (length-append, length-drop) (omega (arith, short, c.whole))

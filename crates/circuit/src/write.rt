@@ -5,7 +5,6 @@ ghost use Rattle.circuit_tight.specs.helpers.Lists.{Threaded, Listed, drawn};
 ghost use Rattle.circuit_search.specs.helpers.Ways.{FirstNoted};
 ghost use Rattle.circuit.specs.helpers.Writing.{WayCounted, Written};
 
-use casts::{byte_index, word_index};
 use net::{PLACES, TRANSITIONS};
 
 // How many places the circuit has: those that lead back from goal to root, and the one before them.
@@ -27,8 +26,8 @@ fn count_back(
     let mut x = goal;
     let mut k: usize = 1;
     while x != root {
-        let q = word_index(via[x]) - 1;
-        x = byte_index(src[q]);
+        let q = usize::from(via[x]) - 1;
+        x = usize::from(src[q]);
         k += 1;
     }
     k
@@ -50,16 +49,16 @@ pub fn hand_out(
     requires first_noted { FirstNoted (drawn nt np src.now dst.now) (Listed dst.now) (at dst.now p) (at src.now p) (at via.now) }
     ensures { Written nt np src.now dst.now p ring.old result ring.new }
 {
-    let goal = byte_index(src[p]);
-    let root = byte_index(dst[p]);
+    let goal = usize::from(src[p]);
+    let root = usize::from(dst[p]);
     let len = count_back(nt, np, next, src, dst, via, root, goal);
     let mut x = goal;
     let mut k = len;
     while x != root {
-        let q = word_index(via[x]) - 1;
+        let q = usize::from(via[x]) - 1;
         k -= 1;
         ring[k] = q as u16;
-        x = byte_index(src[q]);
+        x = usize::from(src[q]);
     }
     ring[0] = p as u16;
     len

@@ -7,48 +7,41 @@ use Rattle.circuit.proofs.Climbs.{climb_end, climb_in, climb_more, climb_on, cli
 use Rattle.circuit.proofs.write.count_back.Goals as goal
 
 pub loop-x-init : goal.loop-x-init
-loop-x-init c = (climb_start c.args.via.now c.requires.first_noted, omega arith)
+loop-x-init c = (climb_start c.args.via.now c.requires.root_lt_nt.0 c.requires.first_noted, omega arith)
 
 pub offset_bounds-via-x : goal.offset_bounds-via-x
 offset_bounds-via-x c =
-    omega (arith, climb_in c.requires.threaded c.requires.root_lt_nt.0 c.loop-x.invariant.0, c.requires.threaded.few)
+    omega (arith, climb_in c.requires.threaded c.loop-x.invariant.0, c.requires.threaded.few)
 
 pub bounds-via-x : goal.bounds-via-x
 bounds-via-x c =
-    omega (arith, climb_in c.requires.threaded c.requires.root_lt_nt.0 c.loop-x.invariant.0, c.requires.threaded.few)
-
-pub word_index-q-requires : goal.word_index-q-requires
-word_index-q-requires c = tt
+    omega (arith, climb_in c.requires.threaded c.loop-x.invariant.0, c.requires.threaded.few)
 
 pub overflow_sub-q : goal.overflow_sub-q
 overflow_sub-q c =
     let loop-test = c.loop-x-test in
-    (climb_place c.requires.threaded c.requires.root_lt_nt.0 c.loop-x.invariant.0 loop-test.true c.word_index-q.ensures.0).0
+    (climb_place c.requires.threaded c.loop-x.invariant.0 loop-test.true c.from-q.ensures).0
 
 pub bounds-src-q : goal.bounds-src-q
 bounds-src-q c =
     let loop-test = c.loop-x-test in
-    omega (arith, (climb_place c.requires.threaded c.requires.root_lt_nt.0 c.loop-x.invariant.0 loop-test.true c.word_index-q.ensures.0).1, c.requires.threaded.many)
-
-pub byte_index-x-requires : goal.byte_index-x-requires
-byte_index-x-requires c = tt
+    omega (arith, (climb_place c.requires.threaded c.loop-x.invariant.0 loop-test.true c.from-q.ensures).1, c.requires.threaded.many)
 
 pub overflow_add-k : goal.overflow_add-k
 overflow_add-k c =
-    omega (arith, climb_more c.requires.threaded c.requires.root_lt_nt.0 c.loop-x.invariant.0 c.loop-x-test.true, c.loop-x.invariant.1, c.requires.threaded.few)
+    omega (arith, climb_more c.requires.threaded c.loop-x.invariant.0 c.loop-x-test.true, c.loop-x.invariant.1, c.requires.threaded.few)
 
 pub loop-x-smaller : goal.loop-x-smaller
 loop-x-smaller c =
-    omega (arith, climb_more c.requires.threaded c.requires.root_lt_nt.0 c.loop-x.invariant.0 c.loop-x-test.true, c.loop-x.invariant.1)
+    omega (arith, climb_more c.requires.threaded c.loop-x.invariant.0 c.loop-x-test.true, c.loop-x.invariant.1)
 
 pub loop-x-preserved : goal.loop-x-preserved
 loop-x-preserved c =
     let loop-test = c.loop-x-test in
-    let index = c.word_index-q in
-    (climb_on c.loop-x.invariant.0 loop-test.true index.ensures.0 c.byte_index-x.ensures.0, omega (arith, c.loop-x.invariant.1))
+    (climb_on c.loop-x.invariant.0 loop-test.true c.from-q.ensures c.from-x.ensures, omega (arith, c.loop-x.invariant.1))
 
 pub returns : goal.returns
 returns c =
     let inv = c.loop-x.invariant in
-    let end = climb_end c.requires.threaded c.requires.root_lt_nt.0 inv.0 c.requires.root_lt_nt.1 c.loop-x-test.false in
+    let end = climb_end c.requires.threaded inv.0 c.requires.root_lt_nt.1 c.loop-x-test.false in
     record { noted = inv.0.noted; count = omega (arith, inv.1, ap length end) }

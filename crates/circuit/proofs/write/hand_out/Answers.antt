@@ -8,100 +8,76 @@ use Rattle.circuit.proofs.write.hand_out.Goals as goal
 pub bounds-src-p : goal.bounds-src-p
 bounds-src-p c = omega (arith, c.requires.threaded.many, c.requires.p_lt_np.0)
 
-pub byte_index-goal-requires : goal.byte_index-goal-requires
-byte_index-goal-requires c = tt
-
 pub bounds-dst-p : goal.bounds-dst-p
 bounds-dst-p c = omega (arith, c.requires.threaded.many, c.requires.p_lt_np.0)
 
-pub byte_index-root-requires : goal.byte_index-root-requires
-byte_index-root-requires c = tt
-
 pub count_back-len-requires : goal.count_back-len-requires
 count_back-len-requires c =
-    let number = c.byte_index-goal in
-    let root = root_in c.requires.threaded c.requires.p_lt_np.0 c.requires.p_lt_np.1 c.byte_index-root.ensures.0 in
-    let apart = root_apart c.requires.threaded c.requires.p_lt_np.0 c.requires.p_lt_np.1 c.byte_index-root.ensures.0 number.ensures.0 in
-    let noted = noted_to c.args.nt c.args.np c.args.src.now c.args.dst.now c.args.via.now c.args.p c.byte_index-root.ensures.0 number.ensures.0 c.requires.first_noted in record { threaded = c.requires.threaded; root_lt_nt = (root, apart); first_noted = noted }
+    let root = root_in c.requires.threaded c.requires.p_lt_np.0 c.requires.p_lt_np.1 c.from-root.ensures in
+    let apart = root_apart c.requires.threaded c.requires.p_lt_np.0 c.requires.p_lt_np.1 c.from-root.ensures c.from-goal.ensures in
+    let noted = noted_to c.args.nt c.args.np c.args.src.now c.args.dst.now c.args.via.now c.args.p c.from-root.ensures c.from-goal.ensures c.requires.first_noted in record { threaded = c.requires.threaded; root_lt_nt = (root, apart); first_noted = noted }
 
 pub loop-x-init : goal.loop-x-init
-loop-x-init c = fill_start c.count_back-len.ensures
+loop-x-init c = fill_start (root_in c.requires.threaded c.requires.p_lt_np.0 c.requires.p_lt_np.1 c.from-root.ensures) c.count_back-len.ensures
 
 pub offset_bounds-via-x : goal.offset_bounds-via-x
 offset_bounds-via-x c =
-    let root = root_in c.requires.threaded c.requires.p_lt_np.0 c.requires.p_lt_np.1 c.byte_index-root.ensures.0 in
-    omega (arith, climb_in c.requires.threaded root c.loop-x.invariant.climb, c.requires.threaded.few)
+    omega (arith, climb_in c.requires.threaded c.loop-x.invariant.climb, c.requires.threaded.few)
 
 pub bounds-via-x : goal.bounds-via-x
 bounds-via-x c =
-    let root = root_in c.requires.threaded c.requires.p_lt_np.0 c.requires.p_lt_np.1 c.byte_index-root.ensures.0 in
-    omega (arith, climb_in c.requires.threaded root c.loop-x.invariant.climb, c.requires.threaded.few)
-
-pub word_index-q-requires : goal.word_index-q-requires
-word_index-q-requires c = tt
+    omega (arith, climb_in c.requires.threaded c.loop-x.invariant.climb, c.requires.threaded.few)
 
 pub overflow_sub-q : goal.overflow_sub-q
 overflow_sub-q c =
-    let root = root_in c.requires.threaded c.requires.p_lt_np.0 c.requires.p_lt_np.1 c.byte_index-root.ensures.0 in
-    let place = climb_place c.requires.threaded root c.loop-x.invariant.climb c.loop-x-test.true c.word_index-q.ensures.0 in
+    let place = climb_place c.requires.threaded c.loop-x.invariant.climb c.loop-x-test.true c.from-q.ensures in
     place.0
 
 pub overflow_sub-k : goal.overflow_sub-k
 overflow_sub-k c =
-    let root = root_in c.requires.threaded c.requires.p_lt_np.0 c.requires.p_lt_np.1 c.byte_index-root.ensures.0 in
-    let room = fill_left c.requires.threaded root c.loop-x.invariant c.requires.p_lt_np.2 c.loop-x-test.true in
+    let room = fill_left c.requires.threaded c.loop-x.invariant c.requires.p_lt_np.2 c.loop-x-test.true in
     omega (arith, room.0)
 
 pub overflow_cast-ring : goal.overflow_cast-ring
 overflow_cast-ring c =
-    let root = root_in c.requires.threaded c.requires.p_lt_np.0 c.requires.p_lt_np.1 c.byte_index-root.ensures.0 in
-    let place = climb_place c.requires.threaded root c.loop-x.invariant.climb c.loop-x-test.true c.word_index-q.ensures.0 in
+    let place = climb_place c.requires.threaded c.loop-x.invariant.climb c.loop-x-test.true c.from-q.ensures in
     omega (arith, place.1, c.requires.threaded.many)
 
 pub offset_bounds-ring-k : goal.offset_bounds-ring-k
 offset_bounds-ring-k c =
-    let root = root_in c.requires.threaded c.requires.p_lt_np.0 c.requires.p_lt_np.1 c.byte_index-root.ensures.0 in
-    let room = fill_left c.requires.threaded root c.loop-x.invariant c.requires.p_lt_np.2 c.loop-x-test.true in
+    let room = fill_left c.requires.threaded c.loop-x.invariant c.requires.p_lt_np.2 c.loop-x-test.true in
     omega (arith, room.1, c.requires.threaded.few)
 
 pub bounds-ring-k : goal.bounds-ring-k
 bounds-ring-k c =
-    let root = root_in c.requires.threaded c.requires.p_lt_np.0 c.requires.p_lt_np.1 c.byte_index-root.ensures.0 in
-    let room = fill_left c.requires.threaded root c.loop-x.invariant c.requires.p_lt_np.2 c.loop-x-test.true in
+    let room = fill_left c.requires.threaded c.loop-x.invariant c.requires.p_lt_np.2 c.loop-x-test.true in
     omega (arith, room.0, room.1, c.loop-x.invariant.long, c.requires.p_lt_np.2)
 
 pub bounds-src-q : goal.bounds-src-q
 bounds-src-q c =
-    let root = root_in c.requires.threaded c.requires.p_lt_np.0 c.requires.p_lt_np.1 c.byte_index-root.ensures.0 in
-    let place = climb_place c.requires.threaded root c.loop-x.invariant.climb c.loop-x-test.true c.word_index-q.ensures.0 in
+    let place = climb_place c.requires.threaded c.loop-x.invariant.climb c.loop-x-test.true c.from-q.ensures in
     omega (arith, place.1, c.requires.threaded.many)
-
-pub byte_index-x-requires : goal.byte_index-x-requires
-byte_index-x-requires c = tt
 
 pub loop-x-smaller : goal.loop-x-smaller
 loop-x-smaller c =
-    let root = root_in c.requires.threaded c.requires.p_lt_np.0 c.requires.p_lt_np.1 c.byte_index-root.ensures.0 in
-    let room = fill_left c.requires.threaded root c.loop-x.invariant c.requires.p_lt_np.2 c.loop-x-test.true in
+    let room = fill_left c.requires.threaded c.loop-x.invariant c.requires.p_lt_np.2 c.loop-x-test.true in
     omega (arith, room.0)
 
 pub loop-x-preserved : goal.loop-x-preserved
 loop-x-preserved c =
-    let root = root_in c.requires.threaded c.requires.p_lt_np.0 c.requires.p_lt_np.1 c.byte_index-root.ensures.0 in
-    fill_on c.requires.threaded root c.loop-x.invariant c.requires.p_lt_np.2 c.loop-x-test.true c.word_index-q.ensures.0 c.byte_index-x.ensures.0
+    fill_on c.requires.threaded c.loop-x.invariant c.requires.p_lt_np.2 c.loop-x-test.true c.from-q.ensures c.from-x.ensures
 
 pub overflow_cast-ring-2 : goal.overflow_cast-ring-2
 overflow_cast-ring-2 c = omega (arith, c.requires.p_lt_np.0, c.requires.threaded.many)
 
 pub bounds-ring-0 : goal.bounds-ring-0
 bounds-ring-0 c =
-    omega (arith, root_in c.requires.threaded c.requires.p_lt_np.0 c.requires.p_lt_np.1 c.byte_index-root.ensures.0, c.loop-x.invariant.long, c.requires.p_lt_np.2)
+    omega (arith, c.loop-x.invariant.climb.begins, c.loop-x.invariant.long, c.requires.p_lt_np.2)
 
 pub shape_of-ring : goal.shape_of-ring
 shape_of-ring c = simp length-set c.loop-x.invariant.long
 
 pub returns : goal.returns
 returns c =
-    let root = root_in c.requires.threaded c.requires.p_lt_np.0 c.requires.p_lt_np.1 c.byte_index-root.ensures.0 in
-    let apart = root_apart c.requires.threaded c.requires.p_lt_np.0 c.requires.p_lt_np.1 c.byte_index-root.ensures.0 c.byte_index-goal.ensures.0 in
-    fill_end c.requires.threaded root c.loop-x.invariant c.requires.p_lt_np.2 c.byte_index-root.ensures.0 c.byte_index-goal.ensures.0 apart c.loop-x-test.false
+    let apart = root_apart c.requires.threaded c.requires.p_lt_np.0 c.requires.p_lt_np.1 c.from-root.ensures c.from-goal.ensures in
+    fill_end c.requires.threaded c.loop-x.invariant c.requires.p_lt_np.2 c.from-root.ensures c.from-goal.ensures apart c.loop-x-test.false
