@@ -5,7 +5,6 @@ ghost use Rattle.std.specs.Prelude.{◌<◌, ◌≤◌};
 ghost use Rattle.net.specs.Limits.{most_nodes};
 ghost use Rattle.judge_tour.specs.helpers.Ended.{Ended};
 
-use casts::byte_index;
 use net::{EDGES, NODES};
 
 // Both ends of every edge. Entry 2k + 1 stands for the end that edge k leaves, 2k + 2 for the one it enters, and 0 for none.
@@ -15,11 +14,8 @@ const ENDS: usize = 2 * EDGES;
 fn entry(x: u16) -> usize
     ensures { result ≤ 256 }
 {
-    let r = x as usize;
-    if r > ENDS {
-        return 0;
-    }
-    r
+    let r = usize::from(x);
+    if r > ENDS { 0 } else { r }
 }
 
 // Entry q heads the list of node v.
@@ -42,10 +38,8 @@ fn link_edge(
     requires ended { Ended e from.now to.now }
     requires k_lt_e { k < e }
 {
-    let a = byte_index(from[k]);
-    let b = byte_index(to[k]);
-    link(a, 2 * k + 1, head, next);
-    link(b, 2 * k + 2, head, next);
+    link(usize::from(from[k]), 2 * k + 1, head, next);
+    link(usize::from(to[k]), 2 * k + 2, head, next);
 }
 
 // The ends of every edge, in lists by node.
@@ -58,10 +52,8 @@ fn link_edges(
 )
     requires { Ended e from.now to.now }
 {
-    let mut k = 0;
-    while k < e {
+    for k in 0..e {
         link_edge(e, k, from, to, head, next);
-        k += 1;
     }
 }
 
@@ -71,10 +63,7 @@ fn follow(next: &[u16; ENDS], q: usize) -> usize
     ensures { result < q }
 {
     let r = entry(next[q - 1]);
-    if r < q {
-        return r;
-    }
-    0
+    if r < q { r } else { 0 }
 }
 
 // The node at the other end of the edge of entry q.
@@ -82,10 +71,8 @@ fn other(q: usize, from: &[u8; EDGES], to: &[u8; EDGES]) -> usize
     requires { (0 < q) × (q ≤ 256) }
 {
     let k = (q - 1) / 2;
-    if (q - 1) % 2 == 0 {
-        return byte_index(to[k]);
-    }
-    byte_index(from[k])
+    let ends = if (q - 1) % 2 == 0 { to } else { from };
+    usize::from(ends[k])
 }
 
 // The node that entry q leads to joins the queue, with the edge, unless it was met before.
@@ -102,13 +89,7 @@ fn meet(
     ensures { result ≤ most_nodes }
 {
     let u = other(q, from, to);
-    if u >= NODES {
-        return end;
-    }
-    if met[u] != 0 {
-        return end;
-    }
-    if end >= NODES {
+    if u >= NODES || end >= NODES || met[u] != 0 {
         return end;
     }
     met[u] = 1;
@@ -175,7 +156,7 @@ fn search(
     let mut end = 1;
     let mut done = 0;
     while done < end {
-        let v = byte_index(queue[done]);
+        let v = usize::from(queue[done]);
         end = visit_node(v, from, to, head, next, &mut met, &mut queue, by, end);
         done += 1;
     }

@@ -1,6 +1,5 @@
 -- The invariant: k places less one lead from x to goal.
 use lib.ListN.{length}
-use Prim.Native.Nat.{◌-◌}
 use mathlib.Core.Path.{ap}
 use native.Mathlib.Omega.{arith}
 use Rattle.circuit.proofs.Climbs.{climb_end, climb_in, climb_more, climb_on, climb_place, climb_start}

@@ -1,21 +1,8 @@
 -- The invariant: the places behind x stand in the buffer from k on.
-use lib.ListN.{length-set}
 use native.Mathlib.Omega.{arith}
 use Rattle.circuit.proofs.Climbs.{climb_in, climb_place}
-use Rattle.circuit.proofs.Fills.{fill_end, fill_left, fill_on, fill_start, noted_to, root_apart, root_in}
+use Rattle.circuit.proofs.Fills.{fill_end, fill_left, fill_on, fill_start, root_apart, root_in}
 use Rattle.circuit.proofs.write.hand_out.Goals as goal
-
-pub bounds-src-p : goal.bounds-src-p
-bounds-src-p c = omega (arith, c.requires.threaded.many, c.requires.p_lt_np.0)
-
-pub bounds-dst-p : goal.bounds-dst-p
-bounds-dst-p c = omega (arith, c.requires.threaded.many, c.requires.p_lt_np.0)
-
-pub count_back-len-requires : goal.count_back-len-requires
-count_back-len-requires c =
-    let root = root_in c.requires.threaded c.requires.p_lt_np.0 c.requires.p_lt_np.1 c.from-root.ensures in
-    let apart = root_apart c.requires.threaded c.requires.p_lt_np.0 c.requires.p_lt_np.1 c.from-root.ensures c.from-goal.ensures in
-    let noted = noted_to c.args.nt c.args.np c.args.src.now c.args.dst.now c.args.via.now c.args.p c.from-root.ensures c.from-goal.ensures c.requires.first_noted in record { threaded = c.requires.threaded; root_lt_nt = (root, apart); first_noted = noted }
 
 pub loop-x-init : goal.loop-x-init
 loop-x-init c = fill_start (root_in c.requires.threaded c.requires.p_lt_np.0 c.requires.p_lt_np.1 c.from-root.ensures) c.count_back-len.ensures
@@ -32,16 +19,6 @@ pub overflow_sub-q : goal.overflow_sub-q
 overflow_sub-q c =
     let place = climb_place c.requires.threaded c.loop-x.invariant.climb c.loop-x-test.true c.from-q.ensures in
     place.0
-
-pub overflow_sub-k : goal.overflow_sub-k
-overflow_sub-k c =
-    let room = fill_left c.requires.threaded c.loop-x.invariant c.requires.p_lt_np.2 c.loop-x-test.true in
-    omega (arith, room.0)
-
-pub overflow_cast-ring : goal.overflow_cast-ring
-overflow_cast-ring c =
-    let place = climb_place c.requires.threaded c.loop-x.invariant.climb c.loop-x-test.true c.from-q.ensures in
-    omega (arith, place.1, c.requires.threaded.many)
 
 pub offset_bounds-ring-k : goal.offset_bounds-ring-k
 offset_bounds-ring-k c =
@@ -66,16 +43,6 @@ loop-x-smaller c =
 pub loop-x-preserved : goal.loop-x-preserved
 loop-x-preserved c =
     fill_on c.requires.threaded c.loop-x.invariant c.requires.p_lt_np.2 c.loop-x-test.true c.from-q.ensures c.from-x.ensures
-
-pub overflow_cast-ring-2 : goal.overflow_cast-ring-2
-overflow_cast-ring-2 c = omega (arith, c.requires.p_lt_np.0, c.requires.threaded.many)
-
-pub bounds-ring-0 : goal.bounds-ring-0
-bounds-ring-0 c =
-    omega (arith, c.loop-x.invariant.climb.begins, c.loop-x.invariant.long, c.requires.p_lt_np.2)
-
-pub shape_of-ring : goal.shape_of-ring
-shape_of-ring c = simp length-set c.loop-x.invariant.long
 
 pub returns : goal.returns
 returns c =
