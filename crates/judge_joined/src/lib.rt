@@ -9,7 +9,6 @@ ghost use Rattle.net.specs.Plan.{wires};
 ghost use Rattle.judge_tour.specs.helpers.Ended.{Ended};
 ghost use Rattle.judge_joined.specs.helpers.Spreading.{Led, Marks, Passed, Reached, Spread};
 
-use casts::byte_index;
 use judge_tour::tour;
 use net::{EDGES, NODES};
 use refusal::Found;
@@ -28,8 +27,8 @@ fn spread(
     requires k_lt_e { k < e }
     ensures { Spread e from.now to.now k seen.old changed seen.new result }
 {
-    let a = byte_index(from[k]);
-    let b = byte_index(to[k]);
+    let a = usize::from(from[k]);
+    let b = usize::from(to[k]);
     if seen[a] == seen[b] {
         return changed;
     }
@@ -45,10 +44,8 @@ fn pass(e: usize, from: &[u8; EDGES], to: &[u8; EDGES], seen: &mut [u8; NODES]) 
     ensures { Passed e from.now to.now e seen.old seen.new result }
 {
     let mut changed = false;
-    let mut k = 0;
-    while k < e {
+    for k in 0..e {
         changed = spread(e, from, to, k, seen, changed);
-        k += 1;
     }
     changed
 }
@@ -59,10 +56,9 @@ fn lead_by(e: usize, from: &[u8; EDGES], to: &[u8; EDGES], k: usize, seen: &mut 
     requires reached { Reached e from.now to.now seen.old }
     ensures { Led e from.now to.now seen.old seen.new }
 {
-    if k >= e {
-        return;
+    if k < e {
+        spread(e, from, to, k, seen, false);
     }
-    spread(e, from, to, k, seen, false);
 }
 
 // The edges of a tour, in its order.
@@ -71,40 +67,23 @@ fn lead(e: usize, from: &[u8; EDGES], to: &[u8; EDGES], by: &[u8; NODES], seen: 
     requires reached { Reached e from.now to.now seen.old }
     ensures { Led e from.now to.now seen.old seen.new }
 {
-    let mut j = 1;
-    while j < NODES {
-        lead_by(e, from, to, byte_index(by[j]), seen);
-        j += 1;
+    for k in &by[1..] {
+        lead_by(e, from, to, usize::from(*k), seen);
     }
 }
 
-// Two passes are enough where edges stand in a good order. Where the second still marked a node, the marks spread along a tour.
-fn hasten(e: usize, from: &[u8; EDGES], to: &[u8; EDGES], passes: u8, seen: &mut [u8; NODES]) -> u8
-    requires ended { Ended e from.now to.now }
-    requires reached { Reached e from.now to.now seen.old }
-    ensures { Led e from.now to.now seen.old seen.new }
-{
-    if passes == 0 {
-        return 1;
-    }
-    if passes == 1 {
-        let by = tour(e, from, to);
-        lead(e, from, to, &by, seen);
-        return 2;
-    }
-    2
-}
-
-// The nodes that are joined to the source.
+// The nodes that are joined to the source. Two passes are enough where edges stand in a good order. Where the second still marked a node, the marks
+// spread along a tour, and passes follow until one marks nothing.
 fn reach(e: usize, from: &[u8; EDGES], to: &[u8; EDGES]) -> [u8; NODES]
     requires { Ended e from.now to.now }
     ensures { Marks e from.now to.now result }
 {
     let mut seen = [0u8; NODES];
     seen[0] = 1;
-    let mut passes = 0;
-    while pass(e, from, to, &mut seen) {
-        passes = hasten(e, from, to, passes, &mut seen);
+    if pass(e, from, to, &mut seen) && pass(e, from, to, &mut seen) {
+        let by = tour(e, from, to);
+        lead(e, from, to, &by, &mut seen);
+        while pass(e, from, to, &mut seen) {}
     }
     seen
 }
@@ -115,13 +94,10 @@ pub fn first_apart<'a>(n: usize, e: usize, from: &'a [u8; EDGES], to: &'a [u8; E
     ensures { Finds (row8 (wires n e from.now to.now)) result }
 {
     let seen = reach(e, from, to);
-    let last = n + 1;
-    let mut node = 0;
-    while node <= last {
+    for node in 0..n + 2 {
         if seen[node] != 1 {
             return Found::At(node);
         }
-        node += 1;
     }
     Found::Nothing
 }

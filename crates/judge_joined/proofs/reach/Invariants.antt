@@ -2,8 +2,8 @@
 use Rattle.judge_joined.specs.helpers.Spreading.{Reached, missing}
 use Rattle.judge_joined.proofs.reach.Given as goal
 
-abbrev pub invariant-loop-seen : goal.invariant-loop-seen
-invariant-loop-seen l = Reached l.e l.from l.to l.seen
+abbrev pub invariant-loop : goal.invariant-loop
+invariant-loop l = Reached l.e l.from l.to l.seen
 
-abbrev pub decreases-loop-seen : goal.decreases-loop-seen
-decreases-loop-seen l = missing l.seen
+abbrev pub decreases-loop : goal.decreases-loop
+decreases-loop l = missing l.seen
