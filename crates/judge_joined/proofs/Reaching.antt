@@ -1,12 +1,11 @@
 -- The search for the nodes that are joined to the source: what its marks mean as they grow, that they grow, and what they are once every edge is even.
-use Prim.Native.Nat.{ℕ, zero, suc, ◌+◌, ◌≤◌, ◌<◌}
-use mathlib.Core.Path.{◌≡◌, refl, sym, ◌∙◌, subst, ap}
+use Prim.Native.Nat.{ℕ, zero, suc, ◌≤◌, ◌<◌}
+use mathlib.Core.Path.{◌≡◌, refl, sym, ◌∙◌}
 use mathlib.Core.Bool.{Bool, true, false}
 use mathlib.Core.List.{List, [], ◌∷◌}
 use mathlib.Core.Logic.{◌≢◌}
 use native.Mathlib.Omega.{arith}
 use native.Mathlib.Decide.{ℕ_discrete}
-use borrow.Author.Count.{below_more}
 use lib.ListN.{length, set, replicate, length-set}
 use lib.Seq.{get_or-set_other}
 use Rattle.marked.specs.Net.{at}
@@ -83,13 +82,7 @@ module _ {e : ℕ} {from to : List ℕ} where
             let o : at to k ≢ at from k = λ r. z (cc (r, z')) in
             omega (arith, missing_set seen (at from k), missing_falls (set seen (at from k) 1) (at to k) (rw (length-set, h.long) b) (get_or-set_other seen (at from k) (at to k) 1 0 o ∙ z'))
 
-  -- Edge k leaves the marks as they are where it is even, and marks its ends where it is not.
-  pub spread_still : {seen : List ℕ} {k a b : ℕ} (was : Bool) → Reached e from to seen → at seen a ≡ at seen b → a ≡ at from k → b ≡ at to k → Spread e from to k seen was seen was
-  spread_still was h even p q = record { reached = h; fewer = omega arith; grows = λ r s. absurd (differ r s); still = λ r. (r, refl, cc (p, q, even)) }
-    where
-      differ : was ≡ false → was ≡ true → ⊥
-      differ p q = let z : ◌≡◌ {A = ℕ} 0 1 = cc in omega arith
-
+  -- Such an edge has both its ends marked.
   pub spread_more :
       {seen : List ℕ} {k a b : ℕ} (was : Bool) → Reached e from to seen → k < e → (at seen a ≡ at seen b → ⊥) →
       a ≡ at from k → b ≡ at to k → at from k < 42 → at to k < 42 → Spread e from to k seen was (set (set seen a 1) b 1) true
@@ -100,28 +93,8 @@ module _ {e : ℕ} {from to : List ℕ} where
         reached = reached_more h inside odd';
         fewer = omega (arith, falls_more h inside odd' l m);
         grows = λ u v. falls_more h inside odd' l m;
-        still = λ u. absurd (let z : ◌≡◌ {A = ℕ} 0 1 = cc u in omega arith);
+        still = λ u. cc;
       })
-
-  -- A pass, edge after edge.
-  pub passed_none : {seen : List ℕ} → Reached e from to seen → Passed e from to 0 seen seen false
-  passed_none h = record { reached = h; grows = λ p. absurd (let z : ◌≡◌ {A = ℕ} 0 1 = cc p in omega arith); still = λ p. (refl, λ j l. absurd (omega arith)) }
-
-  pub passed_more : {k : ℕ} {old new next : List ℕ} {was now : Bool} → Passed e from to k old new was → Spread e from to k new was next now → Passed e from to (k + 1) old next now
-  passed_more {k} {old} {new} {next} {was} {now} h s = record { reached = s.reached; grows = grows was refl; still = still }
-    where
-      grows : (b : Bool) → was ≡ b → now ≡ true → missing next < missing old
-      grows true p q = omega (arith, h.grows p, s.fewer)
-      grows false p q = omega (arith, s.grows p q, ap missing (h.still p).0)
-
-      still : now ≡ false → (next ≡ old) × ((j : ℕ) → j < k + 1 → Even from to next j)
-      still q =
-          let r = s.still q in
-          let o = h.still r.0 in
-          (r.1 ∙ o.0, below_more (λ j. Even from to next j) k (λ j l. subst (λ (m : List ℕ). Even from to m j) (sym r.1) (o.1 j l)) r.2)
-
-  pub passed_to : {j k : ℕ} {old new : List ℕ} {now : Bool} → j ≡ k → Passed e from to j old new now → Passed e from to k old new now
-  passed_to {old} {new} {now} p h = subst (λ (i : ℕ). Passed e from to i old new now) p h
 
   -- Once every edge is even, whatever is joined to the source is marked.
   pub marked_all : {old new : List ℕ} {now : Bool} → now ≡ false → Passed e from to e old new now → Marks e from to new

@@ -1,5 +1,5 @@
 -- The marks say of each node whether it is joined; the nodes before the one at hand are.
-use Prim.Native.Nat.{ℕ, ◌≤◌, ◌<◌, ◌-◌, ◌+◌}
+use Prim.Native.Nat.{ℕ, ◌<◌}
 use Rattle.net.specs.Plan.{Joined}
 use Rattle.net.specs.Rules.{Node}
 use Rattle.net.specs.Plan.{wires}

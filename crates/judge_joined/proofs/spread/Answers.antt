@@ -1,16 +1,6 @@
 -- An even edge leaves the marks as they are; one that is not has one end marked, so both ends are joined and one mark is new.
-use native.Mathlib.Omega.{arith}
-use Rattle.judge_joined.proofs.Reaching.{spread_more, spread_still}
+use Rattle.judge_joined.proofs.Reaching.{spread_more}
 use Rattle.judge_joined.proofs.spread.Goals as goal
-
-pub bounds-seen-a : goal.bounds-seen-a
-bounds-seen-a c = omega (arith, c.requires.ended.leaves c.args.k c.requires.k_lt_e)
-
-pub bounds-seen-b : goal.bounds-seen-b
-bounds-seen-b c = omega (arith, c.requires.ended.enters c.args.k c.requires.k_lt_e)
-
-pub returns-then-seen-a : goal.returns-then-seen-a
-returns-then-seen-a c = spread_still c.args.changed c.requires.reached c.if-seen-a.true c.from-a.ensures c.from-b.ensures
 
 pub returns : goal.returns
 returns c =
