@@ -10,7 +10,7 @@ use Rattle.marked.specs.Net.{Net, Proper, at}
 use Rattle.net.specs.Limits.{most_places, most_transitions}
 use Rattle.net.specs.Graph.{RunsFrom}
 use Rattle.fraction.specs.helpers.Loaded.{Loaded}
-use Rattle.circuit_tight.specs.helpers.Lists.{Drawn, Lengthened, Listed, Listing, Next, TightIn, Whole}
+use Rattle.circuit_tight.specs.helpers.Lists.{Drawn, Listed, Listing, Next, TightIn, Whole}
 use Rattle.circuit_tight.specs.helpers.Lists.Drawn.{listed, passed}
 
 -- One place more: it does not leave v along T.
@@ -115,16 +115,3 @@ module _ {g : Loaded} {a b : ℕ} {d : List ℕ} where
       let hs = ok.src_in p inside in
       let ht = ok.dst_in p inside in
       listing_one l o inside (omega arith) r.leaves r.comes (omega (arith, r.leaves)) few (omega (arith, r.comes)) x
-
-  module _ {head next src dst : List ℕ} where
-    pub longer_none : {hi : ℕ} → Whole head next src dst → Lengthened g a b d hi hi head next src dst head next src dst
-    longer_none o = record { whole = o; more = λ l. l }
-
-    pub longer_then :
-        {hi mid lo : ℕ} {h k u w h2 k2 u2 w2 : List ℕ} → Lengthened g a b d hi mid head next src dst h k u w
-        → Lengthened g a b d mid lo h k u w h2 k2 u2 w2 → Lengthened g a b d hi lo head next src dst h2 k2 u2 w2
-    longer_then x y = record { whole = y.whole; more = λ l. y.more (x.more l) }
-
-    pub longer_to :
-        {hi hi2 lo lo2 : ℕ} {h k u w : List ℕ} → hi ≡ hi2 → lo ≡ lo2 → Lengthened g a b d hi lo head next src dst h k u w → Lengthened g a b d hi2 lo2 head next src dst h k u w
-    longer_to e f x = rw (← e, ← f) x
