@@ -1,11 +1,10 @@
 -- The start of the search on its arrays, what is left to try, and what it answers.
-use mathlib.Core.Path.{◌≡◌, sym, ◌∙◌, subst}
+use mathlib.Core.Path.{◌≡◌, ◌∙◌}
 use mathlib.Core.Logic.{◌≢◌}
-use mathlib.Core.Bool.{Bool, true, false, true≢false}
+use mathlib.Core.Bool.{true, false}
 use mathlib.Core.List.{List, []}
 use Prim.Native.Nat.{◌*◌, ◌+◌, ◌-◌, ◌<◌, ◌≤◌, ℕ}
 use native.Mathlib.Omega.{arith}
-use native.Mathlib.Decide.{ℕ_discrete}
 use lib.ListN.{length, length-set, replicate, set}
 use lib.Seq.{get_or-set_other, get_or-set_same}
 use Rattle.marked.specs.Sums.{upto}
@@ -14,7 +13,7 @@ use Rattle.marked.proofs.Tallies.{upto_most}
 use Rattle.marked.proofs.Fresh.{zeros}
 use Rattle.circuit_tight.specs.helpers.Lists.{Headed, Threaded, Listed, drawn}
 use Rattle.circuit_search.specs.helpers.Ways.{Cut, FirstNoted}
-use Rattle.circuit_search.specs.helpers.Turns.{LowestBack, MoveEnds, Sought, Tried, Turned, Under}
+use Rattle.circuit_search.specs.helpers.Turns.{MoveEnds, Sought, Turned, Under}
 use Rattle.circuit_search.specs.helpers.Turns.MoveEnds.{gone, got, moved}
 use Rattle.circuit_search.specs.declared.Move.{Move}
 use Rattle.circuit_search.specs.declared.Move.TheVariants.{At, GivenUp, Reached}
@@ -48,56 +47,28 @@ module _ {nt np : ℕ} {src dst : List ℕ} {root goal : ℕ} {seen via cur : Li
 
   pub outcome_at : {m : Move} {y : ℕ} → MoveEnds nt np src dst root goal seen via cur m → m ≡ At y → Under nt np src dst root goal seen via cur y
   outcome_at {y = y} (moved {y = z} h) e = let d : z ≡ y = cc in rw (← d) h
-  outcome_at (got n l) e = let z : ◌≡◌ {A = ℕ} 0 1 = cc in absurd (omega arith)
-  outcome_at (gone n l) e = let z : ◌≡◌ {A = ℕ} 0 1 = cc in absurd (omega arith)
+  outcome_at (got n l) e = cc
+  outcome_at (gone n l) e = cc
 
   pub outcome_got : {m : Move} → MoveEnds nt np src dst root goal seen via cur m → m ≡ Reached → FirstNoted (drawn nt np src dst) (Listed dst) root goal (at via) × (length via ≡ 122)
-  outcome_got (moved h) e = let z : ◌≡◌ {A = ℕ} 0 1 = cc in absurd (omega arith)
+  outcome_got (moved h) e = cc
   outcome_got (got n l) e = (n, l)
-  outcome_got (gone n l) e = let z : ◌≡◌ {A = ℕ} 0 1 = cc in absurd (omega arith)
+  outcome_got (gone n l) e = cc
 
   pub outcome_gone : {m : Move} → MoveEnds nt np src dst root goal seen via cur m → m ≡ GivenUp → Cut (drawn nt np src dst) (Listed dst) root goal × (length via ≡ 122)
-  outcome_gone (moved h) e = let z : ◌≡◌ {A = ℕ} 0 1 = cc in absurd (omega arith)
-  outcome_gone (got n l) e = let z : ◌≡◌ {A = ℕ} 0 1 = cc in absurd (omega arith)
+  outcome_gone (moved h) e = cc
+  outcome_gone (got n l) e = cc
   outcome_gone (gone n l) e = (n, l)
 
 module _ {nt np : ℕ} {src dst via : List ℕ} {p root goal : ℕ} (er : root ≡ at dst p) (eg : goal ≡ at src p) where
   pub sought_yes : FirstNoted (drawn nt np src dst) (Listed dst) root goal (at via) × (length via ≡ 122) → Sought nt np src dst p via true
-  sought_yes n = record { long = n.1; yes = λ z. rw (← er, ← eg) n.0; no = λ z. absurd (true≢false z) }
+  sought_yes n = record { long = n.1; yes = λ z. rw (← er, ← eg) n.0; no = λ z. cc }
 
   pub sought_no : Cut (drawn nt np src dst) (Listed dst) root goal × (length via ≡ 122) → Sought nt np src dst p via false
-  sought_no n = record { long = n.1; yes = λ z. absurd (true≢false (sym z)); no = λ z. rw (← er, ← eg) n.0 }
-
-module _ {nt np : ℕ} {src dst via : List ℕ} {p : ℕ} where
-  pub tried_yes : {r : Bool} → Listed dst p → Sought nt np src dst p via r → Tried nt np src dst p via r
-  tried_yes l s = record { long = s.long; fits = λ z. l; yes = s.yes; no = λ z i. s.no z }
-
-  pub tried_no : at dst p ≡ 122 → length via ≡ 122 → Tried nt np src dst p via false
-  tried_no e l = record { long = l; fits = λ z. absurd (true≢false (sym z)); yes = λ z. absurd (true≢false (sym z)); no = λ z i. absurd (i e) }
+  sought_no n = record { long = n.1; yes = λ z. cc; no = λ z. rw (← er, ← eg) n.0 }
 
 -- No listed place below p has a way back.
 pub record Missed (nt np : ℕ) (src dst : List ℕ) (p : ℕ) (via : List ℕ) : Type 0 where
   pub most : p ≤ np
   pub long : length via ≡ 122
   pub none : (q : ℕ) → q < p → Listed dst q → Cut (drawn nt np src dst) (Listed dst) (at dst q) (at src q)
-
-module _ {nt np : ℕ} {src dst : List ℕ} where
-  pub missed_start : {via : List ℕ} → length via ≡ 122 → Missed nt np src dst 0 via
-  missed_start l = record { most = omega arith; long = l; none = λ q h. absurd (omega arith) }
-
-  module _ {p : ℕ} {via : List ℕ} (m : Missed nt np src dst p via) where
-    pub missed_on : {w : List ℕ} {r : Bool} → p < np → Tried nt np src dst p w r → r ≡ false → Missed nt np src dst (p + 1) w
-    missed_on h t e = record {
-      most = omega arith;
-      long = t.long;
-      none = λ q i. elim (ℕ_discrete q p) [
-        | yes z ↦ subst (λ (x : ℕ). Listed dst x → Cut (drawn nt np src dst) (Listed dst) (at dst x) (at src x)) (sym z) (t.no e)
-        | no z ↦ m.none q (omega arith)
-      ];
-    }
-
-    pub lowest_yes : {w : List ℕ} {r : Bool} → Tried nt np src dst p w r → r ≡ true → LowestBack nt np src dst w p
-    lowest_yes t e = record { most = m.most; below = m.none; fits = λ h. t.fits e; noted = λ h. t.yes e }
-
-    pub lowest_none : np ≤ p → LowestBack nt np src dst via np
-    lowest_none f = record { most = omega arith; below = λ q h. m.none q (omega arith); fits = λ h. absurd (omega arith); noted = λ h. absurd (omega arith) }

@@ -62,9 +62,6 @@ module _ {nt np : ℕ} {next src dst : List ℕ} (k : Threaded nt np next src ds
       popped : x ≢ root → Popped (drawn nt np src dst) (Listed dst) root goal (at seen) (at via) (at (set cur x (np + 1))) x u.ts
       popped r = pop u.search.trail u.search (sym eq ∙ e) (put_set cur x (np + 1) (omega (arith, u.long, stands))) r
 
-      pub noted_place : {r : ℕ} → x ≢ root → r ≡ at via x → (1 ≤ r) × (r - 1 < np)
-      noted_place w er = let p = popped w in (omega (arith, p.note), omega (arith, p.note, p.inside))
-
       pub step_back : {r y : ℕ} → x ≢ root → r ≡ at via x → y ≡ at src (r - 1) → Under nt np src dst root goal seen via (set cur x (np + 1)) y
       step_back {r} {y} w er ey =
           let p = popped w in

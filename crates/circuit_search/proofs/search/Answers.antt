@@ -4,25 +4,12 @@ use native.Mathlib.Omega.{arith}
 use Rattle.circuit_search.proofs.Endings.{left_less, outcome_at, outcome_gone, outcome_got, sought_no, sought_yes, under_start}
 use Rattle.circuit_search.proofs.search.Goals as goal
 
-pub bounds-src-p : goal.bounds-src-p
-bounds-src-p c = omega (arith, c.requires.threaded.many, c.requires.p_lt_np.0)
-
-pub bounds-dst-p : goal.bounds-dst-p
-bounds-dst-p c = omega (arith, c.requires.threaded.many, c.requires.p_lt_np.0)
-
-pub bounds-seen-root : goal.bounds-seen-root
-bounds-seen-root c =
-    omega (arith, c.requires.threaded.enters c.args.p c.requires.p_lt_np.0 c.requires.p_lt_np.1, c.from-root.ensures, c.requires.threaded.few)
-
 pub loop-y-init : goal.loop-y-init
 loop-y-init c =
     let enters = c.requires.threaded.enters c.args.p c.requires.p_lt_np.0 c.requires.p_lt_np.1 in
     let apart = c.requires.threaded.apart c.args.p c.requires.p_lt_np.0 c.requires.p_lt_np.1 in
     let root = c.from-root.ensures in
     under_start c.requires.threaded c.requires.headed (omega (arith, enters, root)) (λ z. apart (sym c.from-goal.ensures ∙ z ∙ root)) c.requires.p_lt_np.2
-
-pub turn-m-requires : goal.turn-m-requires
-turn-m-requires c = record { threaded = c.requires.threaded; under = c.loop-y.invariant }
 
 pub loop-y-smaller : goal.loop-y-smaller
 loop-y-smaller c =

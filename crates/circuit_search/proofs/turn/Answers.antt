@@ -2,20 +2,8 @@
 use mathlib.Core.Path.{sym}
 use native.Mathlib.Omega.{arith}
 use Rattle.circuit_search.specs.helpers.Turns.MoveEnds.{gone, got, moved}
-use Rattle.circuit_search.proofs.Turning.{arrive, beyond, further, go_on, leads_in, less, no_way, noted_place, pass, stands, step_back, still}
+use Rattle.circuit_search.proofs.Turning.{arrive, beyond, further, go_on, leads_in, no_way, pass, step_back, still}
 use Rattle.circuit_search.proofs.turn.Goals as goal
-
-pub offset_bounds-cur-x : goal.offset_bounds-cur-x
-offset_bounds-cur-x c = omega (arith, stands c.requires.threaded c.requires.under)
-
-pub bounds-cur-x : goal.bounds-cur-x
-bounds-cur-x c = omega (arith, stands c.requires.threaded c.requires.under)
-
-pub offset_bounds-cur-x-then-q-np : goal.offset_bounds-cur-x-then-q-np
-offset_bounds-cur-x-then-q-np c = omega (arith, stands c.requires.threaded c.requires.under)
-
-pub bounds-cur-x-then-q-np : goal.bounds-cur-x-then-q-np
-bounds-cur-x-then-q-np c = omega (arith, stands c.requires.threaded c.requires.under, c.requires.under.long)
 
 pub returns-then-x-root : goal.returns-then-x-root
 returns-then-x-root c =
@@ -24,42 +12,10 @@ returns-then-x-root c =
       further = further c.requires.threaded c.requires.under (omega (arith, still c.requires.threaded c.requires.under));
     }
 
-pub offset_bounds-via-x : goal.offset_bounds-via-x
-offset_bounds-via-x c = omega (arith, stands c.requires.threaded c.requires.under)
-
-pub bounds-via-x : goal.bounds-via-x
-bounds-via-x c = omega (arith, stands c.requires.threaded c.requires.under, c.requires.under.deep)
-
-pub overflow_sub-p : goal.overflow_sub-p
-overflow_sub-p c =
-    (noted_place c.requires.threaded c.requires.under c.from-q.ensures c.if-q-np.true c.if-x-root.false c.from-p.ensures).0
-
-pub bounds-src-p : goal.bounds-src-p
-bounds-src-p c =
-    omega (arith, (noted_place c.requires.threaded c.requires.under c.from-q.ensures c.if-q-np.true c.if-x-root.false c.from-p.ensures).1, c.requires.threaded.many)
-
 pub returns-then-q-np : goal.returns-then-q-np
 returns-then-q-np c =
     let back = step_back c.requires.threaded c.requires.under c.from-q.ensures c.if-q-np.true c.if-x-root.false c.from-p.ensures c.from.ensures in
     record { outcome = moved back; further = further c.requires.threaded c.requires.under (omega (arith, still c.requires.threaded c.requires.under)) }
-
-pub bounds-next-q : goal.bounds-next-q
-bounds-next-q c =
-    omega (arith, less c.requires.threaded c.requires.under c.from-q.ensures c.if-q-np.false, c.requires.threaded.many)
-
-pub offset_bounds-cur-x-2 : goal.offset_bounds-cur-x-2
-offset_bounds-cur-x-2 c = omega (arith, stands c.requires.threaded c.requires.under)
-
-pub bounds-cur-x-2 : goal.bounds-cur-x-2
-bounds-cur-x-2 c = omega (arith, stands c.requires.threaded c.requires.under, c.requires.under.long)
-
-pub bounds-dst-q : goal.bounds-dst-q
-bounds-dst-q c =
-    omega (arith, less c.requires.threaded c.requires.under c.from-q.ensures c.if-q-np.false, c.requires.threaded.many)
-
-pub overflow_cast-via : goal.overflow_cast-via
-overflow_cast-via c =
-    omega (arith, less c.requires.threaded c.requires.under c.from-q.ensures c.if-q-np.false, c.requires.threaded.many)
 
 pub bounds-via-y : goal.bounds-via-y
 bounds-via-y c =
@@ -83,10 +39,6 @@ returns-then-seen-y-ne0 c =
 pub bounds-seen-y-2 : goal.bounds-seen-y-2
 bounds-seen-y-2 c =
     omega (arith, leads_in c.requires.threaded c.requires.under c.from-q.ensures c.if-q-np.false c.from-y.ensures, c.requires.threaded.few, c.requires.under.wide)
-
-pub overflow_cast-via-2 : goal.overflow_cast-via-2
-overflow_cast-via-2 c =
-    omega (arith, less c.requires.threaded c.requires.under c.from-q.ensures c.if-q-np.false, c.requires.threaded.many)
 
 pub bounds-via-y-2 : goal.bounds-via-y-2
 bounds-via-y-2 c =
