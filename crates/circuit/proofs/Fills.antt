@@ -8,8 +8,7 @@ use native.Mathlib.Decide.{dec_lt}
 use lib.ListN.{get_or-append, drop, length, length-append, length-drop, length-set, set}
 use lib.Seq.{ext_get_or, get_or-append-add, get_or-drop, get_or-set_other, get_or-set_same}
 use Rattle.marked.specs.Net.{at}
-use Rattle.circuit_tight.specs.helpers.Lists.{Threaded, Listed, drawn}
-use Rattle.circuit_search.specs.helpers.Ways.{FirstNoted}
+use Rattle.circuit_tight.specs.helpers.Lists.{Threaded, Listed}
 use Rattle.circuit.specs.helpers.Writing.{WayCounted, Written}
 use Rattle.circuit.proofs.Climbs.{Climb, climb_end, climb_left, climb_on, climb_start, way_short}
 
@@ -92,8 +91,3 @@ module _ {nt np : ℕ} {next src dst : List ℕ} (o : Threaded nt np next src ds
 
   pub root_apart : {goal : ℕ} → goal ≡ at src p → root ≢ goal
   root_apart eg e = o.apart p h l (sym eg ∙ sym e ∙ er)
-
-pub noted_to :
-    (nt np : ℕ) (src dst via : List ℕ) (p : ℕ) {root goal : ℕ} → root ≡ at dst p → goal ≡ at src p →
-    FirstNoted (drawn nt np src dst) (Listed dst) (at dst p) (at src p) (at via) → FirstNoted (drawn nt np src dst) (Listed dst) root goal (at via)
-noted_to nt np src dst via p er eg n = rw (er, eg) n

@@ -2,29 +2,11 @@
 use lib.ListN.{length}
 use mathlib.Core.Path.{ap}
 use native.Mathlib.Omega.{arith}
-use Rattle.circuit.proofs.Climbs.{climb_end, climb_in, climb_more, climb_on, climb_place, climb_start}
+use Rattle.circuit.proofs.Climbs.{climb_end, climb_more, climb_on, climb_start}
 use Rattle.circuit.proofs.write.count_back.Goals as goal
 
 pub loop-x-init : goal.loop-x-init
 loop-x-init c = (climb_start c.args.via.now c.requires.root_lt_nt.0 c.requires.first_noted, omega arith)
-
-pub offset_bounds-via-x : goal.offset_bounds-via-x
-offset_bounds-via-x c =
-    omega (arith, climb_in c.requires.threaded c.loop-x.invariant.0, c.requires.threaded.few)
-
-pub bounds-via-x : goal.bounds-via-x
-bounds-via-x c =
-    omega (arith, climb_in c.requires.threaded c.loop-x.invariant.0, c.requires.threaded.few)
-
-pub overflow_sub-q : goal.overflow_sub-q
-overflow_sub-q c =
-    let loop-test = c.loop-x-test in
-    (climb_place c.requires.threaded c.loop-x.invariant.0 loop-test.true c.from-q.ensures).0
-
-pub bounds-src-q : goal.bounds-src-q
-bounds-src-q c =
-    let loop-test = c.loop-x-test in
-    omega (arith, (climb_place c.requires.threaded c.loop-x.invariant.0 loop-test.true c.from-q.ensures).1, c.requires.threaded.many)
 
 pub overflow_add-k : goal.overflow_add-k
 overflow_add-k c =

@@ -35,11 +35,6 @@ bounds-src-q c =
     let place = climb_place c.requires.threaded c.loop-x.invariant.climb c.loop-x-test.true c.from-q.ensures in
     omega (arith, place.1, c.requires.threaded.many)
 
-pub loop-x-smaller : goal.loop-x-smaller
-loop-x-smaller c =
-    let room = fill_left c.requires.threaded c.loop-x.invariant c.requires.p_lt_np.2 c.loop-x-test.true in
-    omega (arith, room.0)
-
 pub loop-x-preserved : goal.loop-x-preserved
 loop-x-preserved c =
     fill_on c.requires.threaded c.loop-x.invariant c.requires.p_lt_np.2 c.loop-x-test.true c.from-q.ensures c.from-x.ensures
