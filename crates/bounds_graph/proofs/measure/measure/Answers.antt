@@ -11,9 +11,6 @@ pub choose-length-requires : goal.choose-length-requires
 choose-length-requires c =
     record { weighted = lent_weighted c.requires.good c.requires.holds_start c.transition_times.ensures; largest_by = c.largest-most.ensures; n_in_bounds = c.requires.n_in_bounds }
 
-pub path_sums-sums-requires : goal.path_sums-sums-requires
-path_sums-sums-requires c = c.requires.good
-
 pub returns : goal.returns
 returns c =
     bounds_of
