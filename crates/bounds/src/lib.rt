@@ -14,8 +14,7 @@ pub fn bounds(file: &[u8], circuit: &mut [u16]) -> Bounds
     ensures { BoundsReply file.now circuit.old result circuit.new }
 {
     let looked = look(file);
-    let verdict = looked.verdict;
-    if let Verdict::Refused(refusal) = verdict {
+    if let Verdict::Refused(refusal) = looked.verdict {
         return Bounds::Refused(refusal);
     }
     let g = looked.graph;
