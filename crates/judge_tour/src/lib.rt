@@ -3,8 +3,8 @@
 
 ghost use Rattle.std.specs.Prelude.{◌<◌, ◌≤◌};
 ghost use Rattle.net.specs.Limits.{most_nodes};
-ghost use Rattle.judge_tour.specs.helpers.Ended.{Ended};
 
+use net::wiring::Wiring;
 use net::{EDGES, NODES};
 
 // Both ends of every edge: end 2k is the one that edge k leaves, and 2k + 1 the one that it enters.
@@ -27,19 +27,17 @@ impl Lists {
     }
 
     // Both ends of every edge.
-    fn link_edges(&mut self, e: usize, from: &[u8; EDGES], to: &[u8; EDGES])
-        requires { Ended e from.now to.now }
-    {
-        for k in 0..e {
-            self.link(usize::from(from[k]), (2 * k) as u8);
-            self.link(usize::from(to[k]), (2 * k + 1) as u8);
+    fn link_edges(&mut self, g: &Wiring) {
+        for k in 0..g.edges {
+            self.link(usize::from(g.from[k]), (2 * k) as u8);
+            self.link(usize::from(g.to[k]), (2 * k + 1) as u8);
         }
     }
 }
 
 // The node at the other end of the edge of end q.
-fn across(q: u8, from: &[u8; EDGES], to: &[u8; EDGES]) -> usize {
-    let others = if q % 2 == 0 { to } else { from };
+fn across(q: u8, g: &Wiring) -> usize {
+    let others = if q % 2 == 0 { g.to } else { g.from };
     usize::from(others[usize::from(q / 2)])
 }
 
@@ -55,8 +53,8 @@ struct Search {
 
 impl Search {
     // The node that end q leads to joins the queue, with the edge, unless it was met before.
-    fn meet(&mut self, q: u8, from: &[u8; EDGES], to: &[u8; EDGES]) {
-        let u = across(q, from, to);
+    fn meet(&mut self, q: u8, g: &Wiring) {
+        let u = across(q, g);
         if u >= NODES || self.met[u] || self.end >= NODES {
             return;
         }
@@ -67,7 +65,7 @@ impl Search {
     }
 
     // The ends at node v: a list has no more than there are.
-    fn visit(&mut self, v: usize, from: &[u8; EDGES], to: &[u8; EDGES], lists: &Lists) {
+    fn visit(&mut self, v: usize, g: &Wiring, lists: &Lists) {
         if v >= NODES {
             return;
         }
@@ -76,31 +74,29 @@ impl Search {
             let Some(q) = first else {
                 return;
             };
-            self.meet(q, from, to);
+            self.meet(q, g);
             first = lists.next[usize::from(q)];
         }
     }
 
     // The nodes of the queue, which grows meanwhile.
-    fn visit_all(&mut self, from: &[u8; EDGES], to: &[u8; EDGES], lists: &Lists) {
+    fn visit_all(&mut self, g: &Wiring, lists: &Lists) {
         for done in 0..NODES {
             if done >= self.end {
                 return;
             }
-            self.visit(usize::from(self.queue[done]), from, to, lists);
+            self.visit(usize::from(self.queue[done]), g, lists);
         }
     }
 }
 
 // The edges by which nodes are reached, the first of them at 1. Entries that are left over are 0.
-pub fn tour(e: usize, from: &[u8; EDGES], to: &[u8; EDGES]) -> [u8; NODES]
-    requires { Ended e from.now to.now }
-{
+pub fn tour(g: &Wiring) -> [u8; NODES] {
     let mut lists = Lists {
         head: [None; NODES],
         next: [None; ENDS],
     };
-    lists.link_edges(e, from, to);
+    lists.link_edges(g);
     let mut search = Search {
         met: [false; NODES],
         queue: [0; NODES],
@@ -108,6 +104,6 @@ pub fn tour(e: usize, from: &[u8; EDGES], to: &[u8; EDGES]) -> [u8; NODES]
         end: 1,
     };
     search.met[0] = true;
-    search.visit_all(from, to, &lists);
+    search.visit_all(g, &lists);
     search.by
 }
