@@ -11,7 +11,7 @@ use Rattle.net.specs.Ends.{read_of, src_of, write_of}
 use Rattle.net.specs.Graph.{RunsFrom, net_of}
 use Rattle.net.proofs.Shapes.{wired_proper}
 use Rattle.net.proofs.Table.{edge_places, row_places}
-use Rattle.fraction.specs.helpers.Loaded.{Pair, Weighted, most_time, most_tokens}
+use Rattle.fraction.specs.helpers.Loaded.{Leads, Pair, Weighted, loaded, most_time, most_tokens}
 
 module _ {n e : ℕ} {from to marking times : List ℕ} (o : Weighted n e from to marking times) where
   -- Both ends of a place are transitions,
@@ -34,6 +34,9 @@ module _ {n e : ℕ} {from to marking times : List ℕ} (o : Weighted n e from t
 
     pub place_tokens : at marking p ≤ most_tokens
     place_tokens = o.few p r.place
+
+    pub place_leads : Leads (loaded n e from to marking times) p s t
+    place_leads = record { runs = r; starts = place_within.0; ends = place_within.1; within = place_within.2; time = place_time; tokens = place_tokens }
 
     pub place_gain : {a b : ℕ} → Pair a b → b * at times s ≤ most_time
     place_gain few = mul-le-mul few.down place_time

@@ -20,15 +20,15 @@ use Rattle.net.specs.Limits.{longest_time}
 use Rattle.net.specs.Plan.{wires}
 use Rattle.net.specs.Graph.{net_of}
 use Rattle.net.proofs.Table.{step}
-use Rattle.fraction.specs.helpers.Loaded.{Pair, Weighted, loaded, most_tokens}
+use Rattle.fraction.specs.helpers.Loaded.{Weighted, loaded, most_tokens}
 use Rattle.fraction.proofs.Loads.{row_runs, weighted_short}
 use Rattle.tbo_round.specs.helpers.Chains.{Tour}
 use Rattle.tbo.specs.helpers.LargestBy.{LargestBy}
 use Rattle.tbo.specs.helpers.Improved.{Improved, Improves}
 use Rattle.tbo.specs.helpers.Improved.Improves.{beaten, certified as proven}
 use Rattle.std.specs.Prelude.{Option, None, Some}
-use Rattle.tbo_round.specs.declared.Ring.{Ring}
-use Rattle.tbo_round.proofs.Ways.{tour_holds, tour_lasts}
+use Rattle.fraction.specs.declared.load.Rate.{Rate}
+use Rattle.tbo_round.proofs.Ways.{tour_holds, tour_lasts, tour_pair}
 
 -- A closed walk that comes to no transition twice has no place.
 closed_none : {g : Net} {a b : ℕ} {ps : List ℕ} → Walk g a b ps → a ≡ b → Distinct (b ∷ froms g ps) → length ps ≡ 0
@@ -94,30 +94,22 @@ ring_tour {i = i} {times = times} o h =
     }
 
 module _ {g : Net} {m time : ℕ → ℕ} {a b : ℕ} {D : ℕ → ℕ} where
-  improves_certified : {f : Option Ring} → Improves g m time a b D f → f ≡ None → Certifies g m time a b D
+  improves_certified : {f : Option Rate} → Improves g m time a b D f → f ≡ None → Certifies g m time a b D
   improves_certified (proven c) e = c
   improves_certified (beaten o h) e = let z : ◌≡◌ {A = ℕ} 0 1 = cc in absurd (omega arith)
 
-  pub improves_better : {f : Option Ring} {r : Ring} → Improves g m time a b D f → f ≡ Some r → Tour g m time r.time r.tokens × (a * r.tokens < b * r.time)
+  pub improves_better : {f : Option Rate} {r : Rate} → Improves g m time a b D f → f ≡ Some r → Tour g m time r.time r.tokens × (a * r.tokens < b * r.time)
   improves_better (proven c) e = let z : ◌≡◌ {A = ℕ} 0 1 = cc in absurd (omega arith)
   improves_better {r = r} (beaten {r = s} o h) e = let same : s ≡ r = cc in rw (← same) (o, h)
 
 module _ {n e : ℕ} {from to marking times : List ℕ} (o : Weighted n e from to marking times) {a b : ℕ} (x : Tour (net_of (wires n e from to)) (at marking) (at times) a b) where
-  -- The closed walks of the lent graph are small enough for the code.
-  pub pair_of : Pair a b
-  pair_of =
-      record {
-        up = omega (arith, o.wired.operations, tour_lasts longest_time (weighted_short o) o.few x);
-        down = omega (arith, o.wired.operations, tour_holds longest_time (weighted_short o) o.few x);
-      }
-
-  module _ (live : Live (net_of (wires n e from to)) (at marking)) {d : List ℕ} {r : Option Ring} (j : Improved (loaded n e from to marking times) a b d r) where
+  module _ (live : Live (net_of (wires n e from to)) (at marking)) {d : List ℕ} {r : Option Rate} (j : Improved (loaded n e from to marking times) a b d r) where
     -- Certified: the closed walk in hand has the largest ratio.
     pub largest_by : r ≡ None → LargestBy (loaded n e from to marking times) a b d
     largest_by z =
         let cert = improves_certified j.improves z in
-        record { largest = attained (at d) cert x; certifies = cert; positive = tour_some live (weighted_short o) o.few x; small = pair_of; low = j.low }
+        record { largest = attained (at d) cert x; certifies = cert; positive = tour_some live (weighted_short o) o.few x; small = tour_pair o x; low = j.low }
 
     -- Otherwise the next closed walk is nearer.
-    pub nearer_of : {s : Ring} → r ≡ Some s → left (3 * n + 2) s.time s.tokens < left (3 * n + 2) a b
+    pub nearer_of : {s : Rate} → r ≡ Some s → left (3 * n + 2) s.time s.tokens < left (3 * n + 2) a b
     nearer_of z = let y = improves_better j.improves z in nearer live (weighted_short o) o.few x y.0 y.1

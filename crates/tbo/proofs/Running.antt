@@ -13,6 +13,7 @@ use Rattle.tbo_sweep.proofs.Lifting.{lifts_up}
 use Rattle.tbo_round.specs.helpers.Chains.{Round, Tour, Turns, back}
 use Rattle.tbo_round.proofs.Chains.{Sweeps, back_in, comes_round, no_end, notes_of, sweeps_snoc}
 use Rattle.tbo_round.proofs.Chains.Sweeps.{begun}
+use Rattle.tbo_round.proofs.Ways.{round_tour}
 use Rattle.tbo_round.proofs.Steadies.{Steady, steady_start, steady_through}
 
 -- k sweeps from C have led to D and P.
@@ -66,10 +67,8 @@ module _
     }
 
   pub better : {w t n : ℕ} → Round g m time Q w t n → Tour g m time t n × (a * n < b * t)
-  better {w} {t} {n} o =
+  better {w} o =
       let p = o.way in
       let some : 1 ≤ o.count = o.some in
-      let h = steady_next.round w p.places p.walk (omega (arith, p.long)) p.noted in (
-        record { turn = w; places = p.places; walk = p.walk; some = omega (arith, p.long); few = omega (arith, p.long, o.few); lasts = p.lasts; holds = p.holds },
-        rw (p.lasts, p.holds) at h,
-      )
+      let h = steady_next.round w p.places p.walk (omega (arith, p.long)) p.noted in
+      (round_tour o, rw (p.lasts, p.holds) at h)

@@ -7,10 +7,14 @@ use native.Mathlib.Omega.{arith}
 use native.Mathlib.Nat.{mul-le-mul_right}
 use lib.ListN.{length}
 use Rattle.marked.specs.Sums.{sum}
-use Rattle.marked.specs.Net.{Net, Proper, Walk, go, lasts, stop, tokens}
+use Rattle.marked.specs.Net.{Net, Proper, Walk, at, go, lasts, stop, tokens}
 use Rattle.marked.proofs.Find.{above}
-use Rattle.fraction.specs.helpers.Loaded.{most_tokens}
-use Rattle.tbo_round.specs.helpers.Chains.{Notes, Tour, Turns, Way, back, behind}
+use Rattle.net.specs.Limits.{longest_time}
+use Rattle.net.specs.Plan.{wires}
+use Rattle.net.specs.Graph.{net_of}
+use Rattle.fraction.specs.helpers.Loaded.{Pair, Weighted, most_tokens}
+use Rattle.fraction.proofs.Loads.{weighted_short}
+use Rattle.tbo_round.specs.helpers.Chains.{Notes, Round, Tour, Turns, Way, back, behind}
 use Rattle.tbo_round.proofs.Chains.{back_in, stuck}
 
 -- Going round.
@@ -75,6 +79,22 @@ module _ {g : Net} {m time : ℕ → ℕ} (most : ℕ) (short : (p : ℕ) → p 
 
   pub tour_holds : {t n : ℕ} → Tour g m time t n → n ≤ most_tokens * g.transitions
   tour_holds y = omega (arith, walk_holds m few y.walk, y.few, y.holds)
+
+-- A round of noted places is a tour.
+pub round_tour : {g : Net} {m time P : ℕ → ℕ} {w t n : ℕ} → Round g m time P w t n → Tour g m time t n
+round_tour {w = w} o =
+    let y = o.way in
+    record { turn = w; places = y.places; walk = y.walk; some = omega (arith, y.long, o.some); few = omega (arith, y.long, o.few); lasts = y.lasts; holds = y.holds }
+
+-- The tours of the lent graph are small enough for the code.
+pub tour_pair :
+    {n e : ℕ} {from to marking times : List ℕ} {a b : ℕ} → Weighted n e from to marking times
+    → Tour (net_of (wires n e from to)) (at marking) (at times) a b → Pair a b
+tour_pair o x =
+    record {
+      up = omega (arith, o.wired.operations, tour_lasts longest_time (weighted_short o) o.few x);
+      down = omega (arith, o.wired.operations, tour_holds longest_time (weighted_short o) o.few x);
+    }
 
 -- one step back
 pub behind_root : (g : Net) (w x : ℕ) → x ≡ 0 → w ≡ behind g w x

@@ -2,9 +2,9 @@
 -- them, and of a fraction of time per token.
 use Rattle.std.specs.Prelude.{List, ◌*◌, ◌+◌, ◌<◌, ◌≤◌, ℕ}
 use Rattle.marked.specs.Net.{Net, at}
-use Rattle.net.specs.Limits.{longest_time}
+use Rattle.net.specs.Limits.{longest_time, most_places, most_transitions}
 use Rattle.net.specs.Plan.{wires}
-use Rattle.net.specs.Graph.{net_of}
+use Rattle.net.specs.Graph.{RunsFrom, net_of}
 use Rattle.net.specs.Good.{Wired}
 
 -- A net, the tokens of each place, and what each transition takes.
@@ -26,6 +26,15 @@ pub record Weighted (n e : ℕ) (from to marking times : List ℕ) : Type 0 wher
   pub wired : Wired n e from to
   pub few : (p : ℕ) → p < 3 * n + 2 * e → at marking p ≤ most_tokens
   pub short : (t : ℕ) → t < 3 * n + 2 → at times t ≤ longest_time
+
+-- The place p leads from s to t, and its numbers, the time and the tokens there are within the limits.
+pub record Leads (g : Loaded) (p s t : ℕ) : Type 0 where
+  pub runs : RunsFrom g.net p s t
+  pub starts : s < most_transitions
+  pub ends : t < most_transitions
+  pub within : p < most_places
+  pub time : g.time s ≤ longest_time
+  pub tokens : g.held p ≤ most_tokens
 
 -- The most time of a fraction, and the most tokens: room for a closed walk of as many places as there can be transitions.
 abbrev pub most_time : ℕ

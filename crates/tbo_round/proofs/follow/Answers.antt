@@ -1,10 +1,10 @@
--- The invariant: w stands k steps back.
+-- The invariant: w stands that many steps back.
 use Prim.Native.Nat.{ℕ, ◌+◌, ◌*◌, ◌-◌}
 use mathlib.Core.Path.{◌∙◌, ap, sym}
 use native.Mathlib.Omega.{arith}
 use Rattle.marked.specs.Net.{at}
 use Rattle.net.specs.Graph.{net_of}
-use Rattle.net.specs.Plan.{wires}
+use Rattle.net.specs.helpers.Wirings.{wires_of}
 use Rattle.net.proofs.Shapes.{wired_proper}
 use Rattle.tbo_round.specs.helpers.Chains.{back}
 use Rattle.tbo_round.proofs.Chains.{back_in}
@@ -14,41 +14,35 @@ use Rattle.tbo_round.proofs.follow.Goals as goal
 pub loop-init : goal.loop-init
 loop-init c = back_none _ _ _
 
-pub overflow_mul-end : goal.overflow_mul-end
-overflow_mul-end c = omega (arith, c.requires.wired.operations)
-
-pub overflow_add-end : goal.overflow_add-end
-overflow_add-end c = omega (arith, c.requires.wired.operations)
-
 pub offset_bounds-pred-w : goal.offset_bounds-pred-w
 offset_bounds-pred-w c =
-    omega (arith, c.requires.wired.operations, c.loop.invariant, back_in c.requires.notes (wired_proper c.requires.wired) c.loop.counter c.args.v c.requires.v_bound)
+    omega (arith, c.args.g.now.wired.operations, c.loop.invariant, back_in c.requires.notes (wired_proper c.args.g.now.wired) c.loop.counter c.args.v c.requires.v_bound)
 
 pub bounds-pred-w : goal.bounds-pred-w
 bounds-pred-w c =
-    omega (arith, c.requires.wired.operations, c.loop.invariant, back_in c.requires.notes (wired_proper c.requires.wired) c.loop.counter c.args.v c.requires.v_bound)
+    omega (arith, c.args.g.now.wired.operations, c.loop.invariant, back_in c.requires.notes (wired_proper c.args.g.now.wired) c.loop.counter c.args.v c.requires.v_bound)
 
 pub returns-then-q-eq0 : goal.returns-then-q-eq0
 returns-then-q-eq0 c =
-    let g = net_of (wires c.args.n c.args.e c.args.from.now c.args.to.now) in
+    let g = net_of (wires_of c.args.g.now) in
     let notes = at c.args.pred.now in
     let none = sym c.from-q.ensures ∙ c.if-q-eq0.true in
-    back_stays g notes c.loop.counter (3 * c.args.n + 2) c.args.v c.loop.w c.loop.invariant none (omega arith)
+    back_stays g notes c.loop.counter (3 * c.args.g.now.operations + 2) c.args.v c.loop.w c.loop.invariant none (omega arith)
 
-pub place_src-w-requires : goal.place_src-w-requires
-place_src-w-requires c =
-    record { wired = c.requires.wired; p_bound = c.requires.notes.inside c.loop.w (c.from-q.result - 1) (omega (arith, c.from-q.ensures)) }
+pub source-w-requires : goal.source-w-requires
+source-w-requires c =
+    c.requires.notes.inside c.loop.w (c.from-q.result - 1) (omega (arith, c.from-q.ensures))
 
 pub loop-preserved : goal.loop-preserved
 loop-preserved c =
-    let g = net_of (wires c.args.n c.args.e c.args.from.now c.args.to.now) in
+    let g = net_of (wires_of c.args.g.now) in
     let notes = at c.args.pred.now in
     let w = c.loop.w in
     let noted = behind_noted g w (notes w) (c.from-q.result - 1) (omega (arith, c.from-q.ensures)) in
-    back_step g notes c.loop.counter c.args.v w _ c.loop.invariant (c.place_src-w.ensures.is ∙ noted)
+    back_step g notes c.loop.counter c.args.v w _ c.loop.invariant (c.source-w.ensures.is ∙ noted)
 
 pub returns : goal.returns
 returns c =
-    let g = net_of (wires c.args.n c.args.e c.args.from.now c.args.to.now) in
+    let g = net_of (wires_of c.args.g.now) in
     let notes = at c.args.pred.now in
     c.loop.invariant ∙ ap (λ (z : ℕ). back g notes z c.args.v) (omega arith)

@@ -7,14 +7,14 @@ use Rattle.tbo_sweep.proofs.raise_item.Goals as goal
 
 pub raise_op-requires : goal.raise_op-requires
 raise_op-requires c =
-    let h = item_op _ _ _ c.requires.weighted.wired.edges c.requires.item.0 c.if-x-ge-EDGES.true in record { weighted = c.requires.weighted; i_lt_n = (omega arith, c.requires.item.1); room = c.requires.room }
+    let h = item_op _ _ _ c.args.g.now.wiring.wired.edges c.requires.item c.if-x-ge-EDGES.true in
+    record { row = omega arith; room = c.requires.room }
 
 pub returns-then-x-ge-EDGES : goal.returns-then-x-ge-EDGES
-returns-then-x-ge-EDGES c = swepts_to (λ p h. of_op c.args.n c.args.x p c.if-x-ge-EDGES.true h) (omega arith) c.raise_op.ensures
+returns-then-x-ge-EDGES c = swepts_to (λ p h. of_op c.args.g.now.wiring.operations c.args.x p c.if-x-ge-EDGES.true h) (omega arith) c.raise_op.ensures
 
 pub raise_edge-requires : goal.raise_edge-requires
-raise_edge-requires c =
-    let h = item_edge _ _ _ c.requires.item.0 (omega arith) in record { weighted = c.requires.weighted; k_lt_e = (h, c.requires.item.1); room = c.requires.room }
+raise_edge-requires c = record { edge = item_edge _ _ _ c.requires.item (omega arith); room = c.requires.room }
 
 pub returns : goal.returns
-returns c = swepts_to (λ p h. of_edge c.args.n c.args.x p (omega arith) h) (omega arith) c.raise_edge.ensures
+returns c = swepts_to (λ p h. of_edge c.args.g.now.wiring.operations c.args.x p (omega arith) h) (omega arith) c.raise_edge.ensures

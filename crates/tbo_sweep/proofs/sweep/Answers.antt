@@ -1,6 +1,6 @@
 -- The invariant: the places of the first j items have been tried.
 use mathlib.Core.Path.{◌≡◌}
-use Prim.Native.Nat.{◌+◌}
+use Prim.Native.Nat.{ℕ, ◌+◌}
 use Rattle.std.proofs.lemmas.List.{length-take-le}
 use native.Mathlib.Omega.{arith}
 use Rattle.fraction.proofs.Loads.{weighted_short}
@@ -13,28 +13,26 @@ pub loop-x-init : goal.loop-x-init
 loop-x-init c = swepts_none (λ p h. absurd (omega (arith, h.1)))
 
 pub overflow_add-x-items : goal.overflow_add-x-items
-overflow_add-x-items c = omega (arith, c.requires.weighted.wired.operations, c.requires.weighted.wired.edges)
+overflow_add-x-items c = omega (arith, c.args.g.now.wiring.wired.operations, c.args.g.now.wiring.wired.edges)
 
 pub raise_item-risen-requires : goal.raise_item-risen-requires
 raise_item-risen-requires c =
-    let here = handed c.args.ord.now c.loop-x-test.true c.from-k.ensures in
-    let room = room_swept (weighted_short c.requires.weighted) c.requires.ordered.1.down c.requires.room c.loop-x.invariant in
+    let here = handed c.args.ord.now c.loop-x-test.true c.from.ensures in
+    let room = room_swept (weighted_short c.args.g.now.weighted) c.args.rate.pair.down c.requires.room c.loop-x.invariant in
     record {
-      weighted = c.requires.weighted;
-      item = (rw here.1 (c.requires.ordered.0.items c.loop-x.x-index here.0), c.requires.ordered.1);
-      room = room_more (omega (arith, c.requires.weighted.wired.operations, c.requires.weighted.wired.edges, here.0)) room;
+      item = rw here.1 (c.requires.ordered.items c.loop-x.x-index here.0);
+      room = room_more (omega (arith, c.args.g.now.wiring.wired.operations, c.args.g.now.wiring.wired.edges, here.0)) room;
     }
 
 pub loop-x-preserved : goal.loop-x-preserved
 loop-x-preserved c =
-    let tried = rw (handed c.args.ord.now c.loop-x-test.true c.from-k.ensures).1 at c.raise_item-risen.ensures in
-    let next = swepts_then (among_last c.args.n c.loop-x.x-index c.args.ord.now) c.loop-x.invariant tried in
+    let tried = rw (handed c.args.ord.now c.loop-x-test.true c.from.ensures).1 at c.raise_item-risen.ensures in
+    let next = swepts_then (among_last c.args.g.now.wiring.operations c.loop-x.x-index c.args.ord.now) c.loop-x.invariant tried in
     rw c.or-last.ensures (swepts_to (λ p h. h) (omega arith) next)
 
 pub returns : goal.returns
 returns c =
-    let all : c.loop-x.x-index ≡ c.args.n + c.args.e = omega (arith, c.requires.weighted.wired.operations, c.requires.weighted.wired.edges, length-take-le (c.args.n + c.args.e) c.args.ord.now) in
-    swepts_to
-    (λ p h. rw all (all_among c.requires.weighted.wired.edges c.requires.ordered.0 p h))
-    (omega arith)
-    c.loop-x.invariant
+    let o = c.args.g.now.wiring.wired in
+    let count : ℕ = c.args.g.now.wiring.operations + c.args.g.now.wiring.edges in
+    let all : c.loop-x.x-index ≡ count = omega (arith, o.operations, o.edges, length-take-le count c.args.ord.now) in
+    swepts_to (λ p h. rw all (all_among o.edges c.requires.ordered p h)) (omega arith) c.loop-x.invariant

@@ -14,47 +14,52 @@ pub loop-init : goal.loop-init
 loop-init c =
     (running_start (zeros 122), record { low = λ v. omega (arith, c.requires.level.low v); long = c.requires.level.long; wide = refl })
 
-pub sweep-requires : goal.sweep-requires
-sweep-requires c =
-    record { weighted = c.requires.weighted; ordered = c.requires.ordered; room = room_more (omega (arith, c.loop.invariant.0.few, c.requires.weighted.wired.operations)) c.loop.invariant.1 }
+pub sweep-requires-clause-room : goal.sweep-requires-clause-room
+sweep-requires-clause-room c = room_more (omega (arith, c.loop.invariant.0.few, c.args.g.now.wiring.wired.operations)) c.loop.invariant.1
 
-pub returns-in_default : goal.returns-in_default
-returns-in_default c =
-    let room = room_swept (weighted_short c.requires.weighted) c.requires.ordered.1.down c.loop.invariant.1 c.sweep.ensures in
+pub returns-in_err-v : goal.returns-in_err-v
+returns-in_err-v c =
+    let room = room_swept (weighted_short c.args.g.now.weighted) c.args.rate.pair.down c.loop.invariant.1 c.sweep.ensures in
     record {
-      improves = certified (certify c.loop.invariant.0 c.sweep.ensures.swept c.in_default.is);
-      low = λ v. omega (arith, c.requires.weighted.wired.operations, c.requires.weighted.wired.edges, c.loop.invariant.0.few, room.low v);
+      improves = rw c.from_residual.ensures (certified (certify c.loop.invariant.0 c.sweep.ensures.swept c.in_err-v.was));
+      low = λ v. omega (arith, c.args.g.now.wiring.wired.operations, c.args.g.now.wiring.wired.edges, c.loop.invariant.0.few, room.low v);
     }
 
 pub follow-w-requires : goal.follow-w-requires
 follow-w-requires c =
-    let notes = notes_of (steady_next c.loop.invariant.0 c.sweep.ensures.swept) in record { wired = c.requires.weighted.wired; notes = notes; v_bound = (rose c.loop.invariant.0 c.sweep.ensures.swept c.in-Some.is).0 }
+    record {
+      notes = notes_of (steady_next c.loop.invariant.0 c.sweep.ensures.swept);
+      v_bound = (rose c.loop.invariant.0 c.sweep.ensures.swept c.in_ok-v.was).0;
+    }
 
 pub offset_bounds-pred-w : goal.offset_bounds-pred-w
 offset_bounds-pred-w c =
-    let place = lands c.loop.invariant.0 c.sweep.ensures.swept (weighted_proper c.requires.weighted) c.in-Some.is c.follow-w.ensures in
-    omega (arith, c.requires.weighted.wired.operations, place)
+    let place = lands c.loop.invariant.0 c.sweep.ensures.swept (weighted_proper c.args.g.now.weighted) c.in_ok-v.was c.follow-w.ensures in
+    omega (arith, c.args.g.now.wiring.wired.operations, place)
 
 pub bounds-pred-w : goal.bounds-pred-w
 bounds-pred-w c =
-    let place = lands c.loop.invariant.0 c.sweep.ensures.swept (weighted_proper c.requires.weighted) c.in-Some.is c.follow-w.ensures in
-    omega (arith, c.requires.weighted.wired.operations, place)
+    let place = lands c.loop.invariant.0 c.sweep.ensures.swept (weighted_proper c.args.g.now.weighted) c.in_ok-v.was c.follow-w.ensures in
+    omega (arith, c.args.g.now.wiring.wired.operations, place)
 
 pub go_round-ring-requires : goal.go_round-ring-requires
 go_round-ring-requires c =
-    record { weighted = c.requires.weighted; turns = turns c.loop.invariant.0 c.sweep.ensures.swept (weighted_proper c.requires.weighted) c.in-Some.is c.follow-w.ensures c.if-pred-w-ne0.true }
+    record { turns = turns c.loop.invariant.0 c.sweep.ensures.swept (weighted_proper c.args.g.now.weighted) c.in_ok-v.was c.follow-w.ensures c.if-pred-w-ne0.true }
 
 pub returns-then-pred-w-ne0 : goal.returns-then-pred-w-ne0
 returns-then-pred-w-ne0 c =
     let walk = better c.loop.invariant.0 c.sweep.ensures.swept c.go_round-ring.ensures in
-    let room = room_swept (weighted_short c.requires.weighted) c.requires.ordered.1.down c.loop.invariant.1 c.sweep.ensures in
-    record { improves = beaten walk.0 walk.1; low = λ v. omega (arith, c.requires.weighted.wired.operations, c.requires.weighted.wired.edges, c.loop.invariant.0.few, room.low v) }
+    let room = room_swept (weighted_short c.args.g.now.weighted) c.args.rate.pair.down c.loop.invariant.1 c.sweep.ensures in
+    record {
+      improves = beaten walk.0 walk.1;
+      low = λ v. omega (arith, c.args.g.now.wiring.wired.operations, c.args.g.now.wiring.wired.edges, c.loop.invariant.0.few, room.low v);
+    }
 
 pub loop-preserved : goal.loop-preserved
 loop-preserved c =
-    let room = room_swept (weighted_short c.requires.weighted) c.requires.ordered.1.down c.loop.invariant.1 c.sweep.ensures in
-    let next = running_on c.loop.invariant.0 c.sweep.ensures.swept (weighted_proper c.requires.weighted) c.in-Some.is c.follow-w.ensures c.if-pred-w-ne0.false in
-    (next, room_more (omega (arith, c.requires.weighted.wired.operations, c.requires.weighted.wired.edges)) room)
+    let room = room_swept (weighted_short c.args.g.now.weighted) c.args.rate.pair.down c.loop.invariant.1 c.sweep.ensures in
+    let next = running_on c.loop.invariant.0 c.sweep.ensures.swept (weighted_proper c.args.g.now.weighted) c.in_ok-v.was c.follow-w.ensures c.if-pred-w-ne0.false in
+    (next, room_more (omega (arith, c.args.g.now.wiring.wired.operations, c.args.g.now.wiring.wired.edges)) room)
 
 pub unreachable-requires : goal.unreachable-requires
-unreachable-requires c = omega (arith, c.requires.weighted.wired.operations, c.loop.invariant.0.few)
+unreachable-requires c = omega (arith, c.args.g.now.wiring.wired.operations, c.loop.invariant.0.few)
