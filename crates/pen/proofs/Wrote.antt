@@ -1,31 +1,49 @@
--- Laws of what a writer has written.
+-- Laws of what a writer has written: texts one behind the other are one text.
 use mathlib.Core.Path.{◌≡◌, refl}
-use Prim.Native.Nat.{ℕ}
 use mathlib.Core.List.{List, ◌++◌}
-use Rattle.pen_put.specs.Digits.{digits}
-use Rattle.pen_put.specs.Lines.{HasRoom, Put, item}
-use Rattle.pen_put.proofs.PutLaws.{first_room, then_put, then_room}
+use native.Mathlib.Numerals.{add-one}
+use native.Mathlib.Omega.{arith}
+use lib.ListN.{length, length-append, length-set}
+use lib.Seq.{length-sets}
+use Prim.Native.Nat.{ℕ, ◌+◌, ◌<◌, ◌≤◌}
+use Rattle.pen_put.specs.Lines.{Put, series}
+use Rattle.pen_put.proofs.PutLaws.{put_length, series_length, sets_append, then_room}
 use Rattle.pen.specs.declared.Writer.{Writer}
-use Rattle.pen.specs.Wrote.{wrote}
+use Rattle.pen.specs.Wrote.{HasRoomFor, Wrote}
 
--- what a writer wrote is put
-pub wrote_put : (w : Writer) (a : List ℕ) → Put w.buf.now w.at a (wrote w a).buf.now (wrote w a).at
-wrote_put w a = record { place = refl; stands = refl }
+-- the writer w has written the text a, and is then x
+module _ {w x : Writer} {a : List ℕ} (p : Wrote w a x) where
+  -- what it wrote is put
+  pub wrote_put : Put w.buf.now w.at a x.buf.now x.at
+  wrote_put = rw p.is (record { place = refl; stands = refl })
 
--- where a writer has room for two texts, it has room for the first, and after it for the second
-pub wrote_room : (w : Writer) (a b : List ℕ) → HasRoom w.buf.now w.at (a ++ b) → HasRoom w.buf.now w.at a × HasRoom (wrote w a).buf.now (wrote w a).at b
-wrote_room w a b f = (first_room b f, then_room (wrote_put w a) f)
+  -- where it had room for more, it has room for the next
+  pub room_next : {b : List ℕ} → HasRoomFor w (a ++ b) → HasRoomFor x b
+  room_next f = then_room wrote_put f
 
--- a writer at a place of a buffer, with room for an item: room for its word, and after it for the digits
-pub item_room : {l : List ℕ} {at : ℕ} (w : Writer) (s : List ℕ) (n : ℕ) → w.buf.now ≡ l → w.at ≡ at → HasRoom l at (item s n)
-    → HasRoom w.buf.now w.at s × HasRoom (wrote w s).buf.now (wrote w s).at (digits n)
-unfolding item
-item_room w s n e f room = wrote_room w s (digits n) (rw (e, f) room)
+  -- with which it has written both
+  pub wrote_next : {b : List ℕ} {y : Writer} → Wrote x b y → Wrote w (a ++ b) y
+  wrote_next {b} {y} q = grind (arith, sets_append, length-append)
 
--- the word and then the digits, written, are the item, put
-pub item_put : {l : List ℕ} {at : ℕ} (w : Writer) {x y : Writer} (s : List ℕ) (n : ℕ) → w.buf.now ≡ l → w.at ≡ at → x ≡ wrote w s → y ≡ wrote x (digits n)
-    → Put l at (item s n) y.buf.now y.at
-unfolding item
-item_put w {x} {y} s n e f g h =
-    let both = then_put (wrote_put w s) (wrote_put (wrote w s) (digits n)) in
-    rw (h, g, ← e, ← f) both
+-- texts in a row: the writer before has written the first i of them, and is then after
+pub record WroteRow (before : Writer) (text : ℕ → List ℕ) (i : ℕ) (after : Writer) : Type 0 where
+  pub row : Wrote before (series text i) after
+
+pub row_none : {w : Writer} {text : ℕ → List ℕ} → WroteRow w text 0 w
+row_none = record { row = grind arith }
+
+module _ {w x : Writer} {text : ℕ → List ℕ} {i : ℕ} (p : WroteRow w text i x) where
+  -- where there was room for more, there is room for the next
+  pub row_room : {n : ℕ} → i < n → HasRoomFor w (series text n) → HasRoomFor x (text i)
+  row_room {n} h f = let put = wrote_put p.row in record { room = omega (arith, put_length put, put.place, f.room, series_length text i n h) }
+
+  -- with it, one more is written
+  pub row_more : {y : Writer} → Wrote x (text i) y → WroteRow w text (i + 1) y
+  row_more q = record { row = rw (add-one i) (wrote_next p.row q) }
+
+  -- at the end all are
+  pub row_all : {n : ℕ} → i ≤ n → n ≤ i → Wrote w (series text n) x
+  row_all {n} h l = let e : i ≡ n = omega arith in rw e at p.row
+
+-- how lines are put together
+pub ruleset writing = (sets_append, length-append, length-set, length-sets)

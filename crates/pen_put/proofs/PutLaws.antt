@@ -1,16 +1,15 @@
--- Writes one behind the other are one write: laws of `HasRoom` and `Put`, from which every line and loop of lines is put together.
+-- Writes one behind the other are one write: laws of `HasRoom` and `Put`, from which every line and row of texts is put together.
 use mathlib.Core.Path.{◌≡◌, refl, ap, sym, ◌∙◌}
 use Prim.Native.Nat.{ℕ, zero, suc, ◌+◌, ◌<◌, ◌≤◌}
 use mathlib.Core.Logic.{◌⊎◌, inl, inr}
 use native.Mathlib.Nat.{add-zero, eq-or-lt_of_le}
-use native.Mathlib.Numerals.{add-one}
 use native.Mathlib.Omega.{arith}
 use mathlib.Core.List.{List, [], ◌∷◌, ◌++◌}
-use lib.ListN.{length, set, take, get_or, length-append}
-use lib.Seq.{sets, length-sets, take-suc}
+use lib.ListN.{length, set, take, drop, length-append}
+use lib.Seq.{sets, length-sets, sets-eq, take_at}
 use Rattle.pen_put.specs.Lines.{HasRoom, Put, series}
 
-sets_append : (l : List ℕ) (i : ℕ) (a b : List ℕ) → sets l i (a ++ b) ≡ sets (sets l i a) (i + length a) b
+pub sets_append : (l : List ℕ) (i : ℕ) (a b : List ℕ) → sets l i (a ++ b) ≡ sets (sets l i a) (i + length a) b
 sets_append l i [] b = ap (λ (k : ℕ). sets l k b) (sym (add-zero i))
 sets_append l i (x ∷ a) b = sets_append (set l i x) (suc i) a b ∙ ap (λ (k : ℕ). sets (sets (set l i x) (suc i) a) k b) (omega arith)
 
@@ -37,6 +36,13 @@ module _ {l z : List ℕ} {at r : ℕ} {a : List ℕ} (p : Put l at a z r) where
 pub first_room : {l : List ℕ} {at : ℕ} {a : List ℕ} (b : List ℕ) → HasRoom l at (a ++ b) → HasRoom l at a
 first_room {a = a} b f = record { room = omega (arith, f.room, length-append a b) }
 
+-- what is put at the beginning of a buffer are its first bytes
+pub put_read : {l z a : List ℕ} {r : ℕ} → HasRoom l 0 a → Put l 0 a z r → take r z ≡ a
+put_read {l} {z} {a} {r} f p =
+    let long : length a ≡ r = omega (arith, p.place) in
+    let front = sets-eq a l 0 f.room ∙ ap (λ (k : ℕ). a ++ drop k l) (omega arith) in
+    ap (take r) (p.stands ∙ front) ∙ take_at a (drop (length a) l) r long
+
 -- what is put determines the buffer and the place behind it
 pub put_unique : {l y z : List ℕ} {at r s : ℕ} {a b : List ℕ} → a ≡ b → Put l at a y r → Put l at b z s → (r ≡ s) × (y ≡ z)
 put_unique {l} {at = at} e p q = (p.place ∙ ap (λ (t : List ℕ). at + length t) e ∙ sym q.place, p.stands ∙ ap (λ (t : List ℕ). sets l at t) e ∙ sym q.stands)
@@ -44,10 +50,6 @@ put_unique {l} {at = at} e p q = (p.place ∙ ap (λ (t : List ℕ). at + length
 -- one more byte behind a text
 pub put_byte : {l z : List ℕ} {at r r' : ℕ} {a : List ℕ} → Put l at a z r → (d : ℕ) → r' ≡ r + 1 → Put l at (a ++ (d ∷ [])) (set z r d) r'
 put_byte p d e = then_put p (record { place = e; stands = refl })
-
--- one more byte of a word
-pub put_next : {l z : List ℕ} {at : ℕ} (s : List ℕ) (i : ℕ) → i < length s → Put l at (take i s) z (at + i) → Put l at (take (i + 1) s) (set z (at + i) (get_or s i 0)) (at + (i + 1))
-put_next s i h p = rw (add-one i, take-suc s i 0 h) (put_byte p (get_or s i 0) (omega arith))
 
 -- texts that agree one by one agree in a row
 pub series_same : (x y : ℕ → List ℕ) (n : ℕ) → ((i : ℕ) → i < n → x i ≡ y i) → series x n ≡ series y n
@@ -58,32 +60,10 @@ series_same x y (suc n) h =
     cc
 
 -- the first i texts are shorter than the first n
-series_length : (text : ℕ → List ℕ) (i n : ℕ) → i < n → length (series text i) + length (text i) ≤ length (series text n)
+pub series_length : (text : ℕ → List ℕ) (i n : ℕ) → i < n → length (series text i) + length (text i) ≤ length (series text n)
 series_length text i zero h = absurd (omega arith)
 series_length text i (suc n) h = go (eq-or-lt_of_le (omega arith)) (λ k. series_length text i n k)
   where
     go : (i ≡ n) ⊎ (i < n) → (i < n → length (series text i) + length (text i) ≤ length (series text n)) → length (series text i) + length (text i) ≤ length (series text n ++ text n)
     go (inl e) on = omega (arith, length-append (series text n) (text n), ap (λ (k : ℕ). length (series text k)) e, ap (λ (k : ℕ). length (text k)) e)
     go (inr k) on = omega (arith, length-append (series text n) (text n), on k)
-
--- a loop of texts, from `at` on in l: of n that fit, i are put, which leaves z and the place r
-pub record Putting (text : ℕ → List ℕ) (n : ℕ) (l : List ℕ) (at : ℕ) (z : List ℕ) (r i : ℕ) : Type 0 where
-  pub within : i ≤ n
-  pub fits : HasRoom l at (series text n)
-  pub put : Put l at (series text i) z r
-
-pub putting_start : {text : ℕ → List ℕ} {n : ℕ} {l : List ℕ} {at : ℕ} → HasRoom l at (series text n) → Putting text n l at l at 0
-putting_start f = record { within = omega arith; fits = f; put = record { place = omega arith; stands = refl } }
-
-module _ {text : ℕ → List ℕ} {n : ℕ} {l : List ℕ} {at : ℕ} {z : List ℕ} {r i : ℕ} (g : Putting text n l at z r i) where
-  -- there is room for the next
-  pub putting_room : i < n → HasRoom z r (text i)
-  putting_room h = record { room = omega (arith, put_length g.put, g.put.place, g.fits.room, series_length text i n h) }
-
-  -- with it, one more is put
-  pub putting_on : {z' : List ℕ} {r' : ℕ} → i < n → Put z r (text i) z' r' → Putting text n l at z' r' (i + 1)
-  putting_on h p = record { within = omega arith; fits = g.fits; put = rw (add-one i) (then_put g.put p) }
-
-  -- at the end all are put
-  pub putting_end : n ≤ i → Put l at (series text n) z r
-  putting_end h = let e : i ≡ n = omega (arith, g.within) in rw e at g.put

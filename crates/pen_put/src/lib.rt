@@ -9,12 +9,9 @@ pub fn put_word(buf: &mut [u8], at: usize, s: &[u8]) -> usize
     requires { HasRoom buf.old at s.now }
     ensures { Put buf.old at s.now buf.new result }
 {
-    let mut i = 0;
-    while i < s.len() {
-        buf[at + i] = s[i];
-        i += 1;
-    }
-    at + i
+    let end = at + s.len();
+    buf[at..end].copy_from_slice(s);
+    end
 }
 
 // Writes the decimal digits of n: those of its tenth, then the last.
@@ -23,11 +20,11 @@ pub fn put_number(buf: &mut [u8], at: usize, n: u64) -> usize
     ensures { Put buf.old at (digits n) buf.new result }
 {
     if n < 10 {
-        buf[at] = (48 + n) as u8;
+        buf[at] = b'0' + n as u8;
         return at + 1;
     }
     let p = put_number(buf, at, n / 10);
-    buf[p] = (48 + n % 10) as u8;
+    buf[p] = b'0' + (n % 10) as u8;
     p + 1
 }
 
@@ -36,6 +33,6 @@ pub fn put_newline(buf: &mut [u8], at: usize) -> usize
     requires { HasRoom buf.old at line_end }
     ensures { Put buf.old at line_end buf.new result }
 {
-    buf[at] = 10;
+    buf[at] = b'\n';
     at + 1
 }

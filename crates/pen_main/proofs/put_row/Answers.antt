@@ -1,25 +1,18 @@
--- The loop's invariant: the first i items are put.
-use native.Mathlib.Omega.{arith}
-use Rattle.pen_put.proofs.PutLaws.{putting_start, putting_room, putting_on, putting_end, put_length}
+-- The loop's invariant: the first numbers are written.
 use Rattle.pen_main.specs.Page.{number_row}
+use Rattle.pen.proofs.Wrote.{row_all, row_more, row_none, row_room}
 use Rattle.pen_main.proofs.put_row.Goals as goal
 
-pub loop-i-init : goal.loop-i-init
+pub loop-n-init : goal.loop-n-init
+loop-n-init c = row_none
+
+pub item-requires : goal.item-requires
 unfolding number_row
-loop-i-init c = putting_start c.requires
+item-requires c = row_room c.loop-n.invariant c.loop-n-test.true c.requires
 
-pub put_item-next-requires : goal.put_item-next-requires
-unfolding number_row
-put_item-next-requires c = putting_room c.loop-i.invariant (omega arith)
-
-pub loop-i-preserved : goal.loop-i-preserved
-loop-i-preserved c =
-    let turn = c.loop-i in
-    putting_on turn.invariant (omega arith) c.put_item-next.ensures
-
-pub shape_of-buf : goal.shape_of-buf
-shape_of-buf c = put_length c.loop-i.invariant.put
+pub loop-n-preserved : goal.loop-n-preserved
+loop-n-preserved c = row_more c.loop-n.invariant c.item.ensures
 
 pub returns : goal.returns
 unfolding number_row
-returns c = putting_end c.loop-i.invariant (omega arith)
+returns c = row_all c.loop-n.invariant c.loop-n.auto.n-index-end c.loop-n-test.false

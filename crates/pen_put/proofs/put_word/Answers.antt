@@ -1,22 +1,12 @@
--- The loop's invariant: the first i bytes of the word are put.
-use mathlib.Core.Path.{refl}
-use native.Mathlib.Omega.{arith}
-use lib.Seq.{take_all}
-use Rattle.pen_put.proofs.PutLaws.{put_length, put_next}
+-- The bytes of the word, copied from a place on, are stored there.
+use Rattle.std.proofs.Common.{arith, refl, ◌++◌, drop, take, List, ℕ, ◌+◌, ◌-◌, ◌≡◌, length, ◌≤◌}
+use Rattle.std.proofs.lemmas.List.Edits.{sets, sets-eq}
+use Rattle.std.proofs.lemmas.Grind.{common_steps}
 use Rattle.pen_put.proofs.put_word.Goals as goal
 
-pub loop-i-init : goal.loop-i-init
-loop-i-init c = (omega arith, c.requires, record { place = omega arith; stands = refl })
-
-pub bounds-buf-at : goal.bounds-buf-at
-bounds-buf-at c = omega (arith, put_length c.loop-i.invariant.2)
-
-pub loop-i-preserved : goal.loop-i-preserved
-loop-i-preserved c =
-    (omega arith, c.loop-i.invariant.1, put_next c.args.s.now c.loop-i.i (omega arith) c.loop-i.invariant.2)
-
-pub shape_of-buf : goal.shape_of-buf
-shape_of-buf c = put_length c.loop-i.invariant.2
+stored : (l s : List ℕ) (at : ℕ) → at + length s ≤ length l → take at l ++ (s ++ drop (at + length s - at) (drop at l)) ≡ sets l at s
+stored l s at h = let e = sets-eq s l at h in grind (arith, common_steps)
 
 pub returns : goal.returns
-returns c = rw (take_all c.loop-i.i c.args.s.now (omega arith)) at c.loop-i.invariant.2
+returns c =
+    record { place = refl; stands = rw c.copy_from_slice.ensures.after (stored c.args.buf.now c.args.s.now c.args.at c.requires.room) }
