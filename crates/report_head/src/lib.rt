@@ -1,76 +1,62 @@
-// The lines before the waits, over plain values: one function a line, each written behind the last into the lent buffer.
-#![tactic(auto)]
+// The lines before the waits, over plain values: one function a line, each written behind the last.
+#![tactic(auto, using(pen::proofs::Wrote::writing), unfolding(report_text::specs::Text::ops_line, report_text::specs::Text::bound_lines, report_text::specs::Text::circuit_line, report_text::specs::Text::head_text))]
 
-ghost use Rattle.pen_put.specs.Lines.{HasRoom, Put, item};
-ghost use Rattle.report_text.specs.Words.{blank_word};
+ghost use Rattle.pen.specs.Wrote.{HasRoomFor, Wrote};
 ghost use Rattle.report_text.specs.Text.{ops_line, bound_lines, ring_places, circuit_line, head_text};
 ghost use Rattle.report_text.specs.helpers.Limits.{CountsFit};
 
+use pen::Writer;
+
 // The four counts, as `ops 1 edges 2 transitions 5 places 7`.
-fn ops_line(buf: &mut [u8], at: usize, n: usize, e: usize) -> usize
+fn ops_line(w: &mut Writer, n: usize, e: usize)
     requires counts_fit { CountsFit n e }
-    requires has_room { HasRoom buf.old at (ops_line n e) }
-    ensures { Put buf.old at (ops_line n e) buf.new result }
+    requires has_room { HasRoomFor w.old (ops_line n e) }
+    ensures { Wrote w.old (ops_line n e) w.new }
 {
-    let edges_at = pen::put_item(buf, at, b"ops ", n as u64);
-    let rest_at = pen::put_item(buf, edges_at, b" edges ", e as u64);
-    pen::pair_line(
-        buf,
-        rest_at,
+    w.item(b"ops ", n as u64);
+    w.item(b" edges ", e as u64);
+    w.pair_line(
         b" transitions ",
         (3 * n + 2) as u64,
         b" places ",
         (3 * n + 2 * e) as u64,
-    )
+    );
 }
 
 // The bounds, as `TBO 15/2`, `TBIO 5`, `TT 10`, `TCE 15`; `total` is TT.
-fn bound_lines(buf: &mut [u8], at: usize, a: u64, b: u64, tbio: u32, total: u32, tce: u32) -> usize
-    requires { HasRoom buf.old at (bound_lines a b tbio total tce) }
-    ensures { Put buf.old at (bound_lines a b tbio total tce) buf.new result }
+fn bound_lines(w: &mut Writer, a: u64, b: u64, tbio: u32, total: u32, tce: u32)
+    requires { HasRoomFor w.old (bound_lines a b tbio total tce) }
+    ensures { Wrote w.old (bound_lines a b tbio total tce) w.new }
 {
-    let tbio_at = pen::pair_line(buf, at, b"TBO ", a, b"/", b);
-    let tt_at = pen::item_line(buf, tbio_at, b"TBIO ", tbio as u64);
-    let tce_at = pen::item_line(buf, tt_at, b"TT ", total as u64);
-    pen::item_line(buf, tce_at, b"TCE ", tce as u64)
+    w.pair_line(b"TBO ", a, b"/", b);
+    w.item_line(b"TBIO ", u64::from(tbio));
+    w.item_line(b"TT ", u64::from(total));
+    w.item_line(b"TCE ", u64::from(tce));
 }
 
-// One place of the circuit, behind a blank.
-fn ring_place(buf: &mut [u8], at: usize, place: u16) -> usize
-    requires { HasRoom buf.old at (item blank_word place) }
-    ensures { Put buf.old at (item blank_word place) buf.new result }
+// All places of the circuit, each behind a blank.
+fn ring_places(w: &mut Writer, ring: &[u16])
+    requires { HasRoomFor w.old (ring_places ring.now) }
+    ensures { Wrote w.old (ring_places ring.now) w.new }
 {
-    pen::put_item(buf, at, b" ", place as u64)
-}
-
-// All places of the circuit.
-fn ring_places(buf: &mut [u8], at: usize, ring: &[u16]) -> usize
-    requires { HasRoom buf.old at (ring_places ring.now) }
-    ensures { Put buf.old at (ring_places ring.now) buf.new result }
-{
-    let mut next = at;
-    let mut i = 0;
-    while i < ring.len() {
-        next = ring_place(buf, next, ring[i]);
-        i += 1;
+    for place in ring {
+        w.item(b" ", u64::from(*place));
     }
-    next
 }
 
 // The circuit, as `circuit 0 1 2`.
-fn circuit_line(buf: &mut [u8], at: usize, ring: &[u16]) -> usize
-    requires { HasRoom buf.old at (circuit_line ring.now) }
-    ensures { Put buf.old at (circuit_line ring.now) buf.new result }
+fn circuit_line(w: &mut Writer, ring: &[u16])
+    requires { HasRoomFor w.old (circuit_line ring.now) }
+    ensures { Wrote w.old (circuit_line ring.now) w.new }
 {
-    let ring_at = pen_put::put_word(buf, at, b"circuit");
-    let end = ring_places(buf, ring_at, ring);
-    pen::end_line(buf, end)
+    w.word(b"circuit");
+    ring_places(w, ring);
+    w.newline();
 }
 
 // All lines before the waits.
 pub fn head_lines(
-    buf: &mut [u8],
-    at: usize,
+    w: &mut Writer,
     n: usize,
     e: usize,
     a: u64,
@@ -79,12 +65,12 @@ pub fn head_lines(
     total: u32,
     tce: u32,
     ring: &[u16],
-) -> usize
+)
     requires counts_fit { CountsFit n e }
-    requires has_room { HasRoom buf.old at (head_text n e a b tbio total tce ring.now) }
-    ensures { Put buf.old at (head_text n e a b tbio total tce ring.now) buf.new result }
+    requires has_room { HasRoomFor w.old (head_text n e a b tbio total tce ring.now) }
+    ensures { Wrote w.old (head_text n e a b tbio total tce ring.now) w.new }
 {
-    let bounds_at = ops_line(buf, at, n, e);
-    let circuit_at = bound_lines(buf, bounds_at, a, b, tbio, total, tce);
-    circuit_line(buf, circuit_at, ring)
+    ops_line(w, n, e);
+    bound_lines(w, a, b, tbio, total, tce);
+    circuit_line(w, ring);
 }

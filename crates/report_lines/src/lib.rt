@@ -9,6 +9,7 @@ ghost use Rattle.pen_put.specs.Lines.{Put};
 ghost use Rattle.report_text.specs.Text.{report_text, refused_line};
 ghost use Rattle.report_text.specs.helpers.Limits.{Writable};
 
+use pen::Writer;
 use report_head::head_lines;
 use waits::wait_lines;
 
@@ -28,8 +29,10 @@ pub fn write_report(
     requires { Writable buf.old n e a b ring.now waits.now }
     ensures { Put buf.old 0 (report_text n e a b tbio total tce ring.now (at waits.now)) buf.new result }
 {
-    let waits_at = head_lines(buf, 0, n, e, a, b, tbio, total, tce, ring);
-    wait_lines(buf, waits_at, n, waits)
+    let mut w = Writer { buf, at: 0 };
+    head_lines(&mut w, n, e, a, b, tbio, total, tce, ring);
+    wait_lines(&mut w, n, waits);
+    w.at
 }
 
 // The report of a refused file, as `refused 9 at 3`; says how long it is.
@@ -37,5 +40,7 @@ pub fn write_refused(buf: &mut [u8], number: u8, place: u16) -> usize
     requires { 4096 ≤ length buf.old }
     ensures { Put buf.old 0 (refused_line number place) buf.new result }
 {
-    pen::pair_line(buf, 0, b"refused ", number as u64, b" at ", place as u64)
+    let mut w = Writer { buf, at: 0 };
+    w.pair_line(b"refused ", u64::from(number), b" at ", u64::from(place));
+    w.at
 }

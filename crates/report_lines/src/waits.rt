@@ -1,27 +1,17 @@
 // The lines of the waits, one a transition.
 ghost use Rattle.std.specs.Prelude.{◌+◌, ◌*◌, ◌≤◌, length, get_or};
-ghost use Rattle.pen_put.specs.Lines.{HasRoom, Put};
-ghost use Rattle.report_text.specs.Text.{wait_line, wait_lines};
+ghost use Rattle.pen.specs.Wrote.{HasRoomFor, Wrote};
+ghost use Rattle.report_text.specs.Text.{wait_lines};
 
-// A transition and its wait, as `wait 4 8`.
-fn wait_line(buf: &mut [u8], at: usize, t: usize, w: u32) -> usize
-    requires { HasRoom buf.old at (wait_line t w) }
-    ensures { Put buf.old at (wait_line t w) buf.new result }
-{
-    pen::pair_line(buf, at, b"wait ", t as u64, b" ", w as u64)
-}
+use pen::Writer;
 
-// The wait of each transition of n operations, in order.
-pub fn wait_lines(buf: &mut [u8], at: usize, n: usize, waits: &[u32]) -> usize
+// The wait of each transition of n operations, in order, as `wait 4 8`.
+pub fn wait_lines(w: &mut Writer, n: usize, waits: &[u32])
     requires n_in_bounds { 3 * n + 2 ≤ length waits.now }
-    requires has_room { HasRoom buf.old at (wait_lines n (λ t. get_or waits.now t 0)) }
-    ensures { Put buf.old at (wait_lines n (λ t. get_or waits.now t 0)) buf.new result }
+    requires has_room { HasRoomFor w.old (wait_lines n (λ t. get_or waits.now t 0)) }
+    ensures { Wrote w.old (wait_lines n (λ t. get_or waits.now t 0)) w.new }
 {
-    let mut next = at;
-    let mut t = 0;
-    while t < 3 * n + 2 {
-        next = wait_line(buf, next, t, waits[t]);
-        t += 1;
+    for t in 0..3 * n + 2 {
+        w.pair_line(b"wait ", t as u64, b" ", u64::from(waits[t]));
     }
-    next
 }

@@ -12,8 +12,5 @@ pub const ROOM: usize = 4096;
 pub fn roomy(bytes: usize) -> bool
     ensures { Says (report_bytes ≤ bytes) result }
 {
-    if bytes < ROOM {
-        return false;
-    }
-    true
+    ROOM <= bytes
 }

@@ -1,25 +1,18 @@
--- The loop's invariant: the first i places are put.
-use Prim.Native.Nat.{◌-◌}
-use native.Mathlib.Omega.{arith}
-use Rattle.pen_put.proofs.PutLaws.{putting_start, putting_room, putting_on, putting_end, put_length}
+-- The loop's invariant: the first places are written.
 use Rattle.report_text.specs.Text.{ring_places}
+use Rattle.pen.proofs.Wrote.{row_all, row_more, row_none, row_room}
 use Rattle.report_head.proofs.ring_places.Goals as goal
 
-pub loop-i-init : goal.loop-i-init
+pub loop-place-init : goal.loop-place-init
+loop-place-init c = row_none
+
+pub item-requires : goal.item-requires
 unfolding ring_places
-loop-i-init c = putting_start c.requires
+item-requires c = rw c.from.ensures (row_room c.loop-place.invariant c.loop-place-test.true c.requires)
 
-pub ring_place-next-requires : goal.ring_place-next-requires
-ring_place-next-requires c = putting_room c.loop-i.invariant (omega arith)
-
-pub loop-i-preserved : goal.loop-i-preserved
-loop-i-preserved c =
-    let turn = c.loop-i in
-    putting_on turn.invariant (omega arith) c.ring_place-next.ensures
-
-pub shape_of-buf : goal.shape_of-buf
-shape_of-buf c = put_length c.loop-i.invariant.put
+pub loop-place-preserved : goal.loop-place-preserved
+loop-place-preserved c = row_more c.loop-place.invariant (rw c.from.ensures at c.item.ensures)
 
 pub returns : goal.returns
 unfolding ring_places
-returns c = putting_end c.loop-i.invariant (omega arith)
+returns c = row_all c.loop-place.invariant c.loop-place.auto.place-index-end c.loop-place-test.false

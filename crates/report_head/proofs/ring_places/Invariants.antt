@@ -1,12 +1,7 @@
--- The loop's invariant: the first i places are put.
-use Prim.Native.Nat.{◌-◌}
-use lib.ListN.{length}
-use Rattle.pen_put.proofs.PutLaws.{Putting}
+-- The loop's invariant: the first places are written.
+use Rattle.pen.proofs.Wrote.{WroteRow}
 use Rattle.report_text.specs.Text.{ring_place}
 use Rattle.report_head.proofs.ring_places.Given as goal
 
-abbrev pub invariant-loop-i : goal.invariant-loop-i
-invariant-loop-i l = Putting (ring_place l.ring) (length l.ring) l.initial.buf l.at l.buf l.next l.i
-
-abbrev pub decreases-loop-i : goal.decreases-loop-i
-decreases-loop-i l = length l.ring - l.i
+abbrev pub invariant-loop-place : goal.invariant-loop-place
+invariant-loop-place l = WroteRow l.initial.w (ring_place l.ring) l.place-index l.w

@@ -1,10 +1,15 @@
 -- The limit of the room.
-use native.Mathlib.Omega.{arith}
-use Rattle.refusal.specs.helpers.Answers.{fails, holds}
+use Rattle.std.proofs.Common.{arith, Bool, true, false, ◌≡◌, ◌≤◌, ℕ, leb, refl}
+use borrow.Author.Tests.{leb-true, leb-false}
+use Rattle.refusal.specs.helpers.Answers.{Says, fails, holds}
 use Rattle.report_text.proofs.roomy.Goals as goal
 
-pub returns-then-bytes-lt-ROOM : goal.returns-then-bytes-lt-ROOM
-returns-then-bytes-lt-ROOM c = fails (λ h. omega arith)
+says_leb : (a b : ℕ) → Says (a ≤ b) (leb a b)
+says_leb a b = go (leb a b) refl
+  where
+    go : (t : Bool) → leb a b ≡ t → Says (a ≤ b) t
+    go true e = holds (leb-true a b e)
+    go false e = fails (λ h. omega (arith, leb-false a b e))
 
 pub returns : goal.returns
-returns c = holds (omega arith)
+returns c = says_leb 4096 c.args.bytes

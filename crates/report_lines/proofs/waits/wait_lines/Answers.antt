@@ -1,25 +1,18 @@
--- The loop's invariant: the lines of the first t transitions are put.
-use Prim.Native.Nat.{◌-◌}
-use native.Mathlib.Omega.{arith}
-use Rattle.pen_put.proofs.PutLaws.{putting_start, putting_room, putting_on, putting_end, put_length}
+-- The loop's invariant: the lines of the first t transitions are written.
+use Rattle.pen.proofs.Wrote.{row_all, row_more, row_none, row_room}
 use Rattle.report_text.specs.Text.{wait_lines}
 use Rattle.report_lines.proofs.waits.wait_lines.Goals as goal
 
 pub loop-t-init : goal.loop-t-init
-unfolding wait_lines
-loop-t-init c = putting_start c.requires.has_room
+loop-t-init c = row_none
 
-pub wait_line-next-requires : goal.wait_line-next-requires
-wait_line-next-requires c = putting_room c.loop-t.invariant (omega arith)
+pub pair_line-requires : goal.pair_line-requires
+unfolding wait_lines
+pair_line-requires c = rw c.from.ensures (row_room c.loop-t.invariant c.loop-t-test.true c.requires.has_room)
 
 pub loop-t-preserved : goal.loop-t-preserved
-loop-t-preserved c =
-    let turn = c.loop-t in
-    putting_on turn.invariant (omega arith) c.wait_line-next.ensures
-
-pub shape_of-buf : goal.shape_of-buf
-shape_of-buf c = put_length c.loop-t.invariant.put
+loop-t-preserved c = row_more c.loop-t.invariant (rw c.from.ensures at c.pair_line.ensures)
 
 pub returns : goal.returns
 unfolding wait_lines
-returns c = putting_end c.loop-t.invariant (omega arith)
+returns c = row_all c.loop-t.invariant c.loop-t.auto.t-end c.loop-t-test.false
