@@ -36,12 +36,17 @@ module _ {l z : List ℕ} {at r : ℕ} {a : List ℕ} (p : Put l at a z r) where
 pub first_room : {l : List ℕ} {at : ℕ} {a : List ℕ} (b : List ℕ) → HasRoom l at (a ++ b) → HasRoom l at a
 first_room {a = a} b f = record { room = omega (arith, f.room, length-append a b) }
 
--- what is put at the beginning of a buffer are its first bytes
-pub put_read : {l z a : List ℕ} {r : ℕ} → HasRoom l 0 a → Put l 0 a z r → take r z ≡ a
-put_read {l} {z} {a} {r} f p =
+-- a text stored at the beginning of a buffer with room for it
+pub sets_front : (a l : List ℕ) → length a ≤ length l → sets l 0 a ≡ a ++ drop (length a) l
+sets_front a l h =
+    let z : 0 + length a ≡ length a = omega arith in
+    sets-eq a l 0 (omega (arith, h)) ∙ ap (λ (k : ℕ). a ++ drop k l) z
+
+-- what is put there are its first bytes
+pub put_read : {l z a : List ℕ} {r : ℕ} → Put l 0 a z r → r ≤ length l → take r z ≡ a
+put_read {l} {z} {a} {r} p h =
     let long : length a ≡ r = omega (arith, p.place) in
-    let front = sets-eq a l 0 f.room ∙ ap (λ (k : ℕ). a ++ drop k l) (omega arith) in
-    ap (take r) (p.stands ∙ front) ∙ take_at a (drop (length a) l) r long
+    ap (take r) (p.stands ∙ sets_front a l (omega (arith, long))) ∙ take_at a (drop (length a) l) r long
 
 -- what is put determines the buffer and the place behind it
 pub put_unique : {l y z : List ℕ} {at r s : ℕ} {a b : List ℕ} → a ≡ b → Put l at a y r → Put l at b z s → (r ≡ s) × (y ≡ z)

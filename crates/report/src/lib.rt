@@ -28,8 +28,7 @@ pub fn report(file: &[u8], buffer: &mut [u8]) -> Report
         };
     }
     let looked = look(file);
-    let verdict = looked.verdict;
-    if let Verdict::Refused(refusal) = verdict {
+    if let Verdict::Refused(refusal) = looked.verdict {
         let length = write_refused(buffer, refusal.number, refusal.place);
         return Report::Refused { refusal, length };
     }

@@ -33,7 +33,6 @@ pub fn answer<'a>(
     every_wait(n, e, from, to, &marking, &mut waits);
     let mut ring = [0u16; TRANSITIONS];
     let found = measure(n, e, times, from, to, mark, buffers, &marking, &mut ring);
-    let places = found.length;
     write_report(
         buffer,
         n,
@@ -43,7 +42,7 @@ pub fn answer<'a>(
         found.tbio,
         found.tt,
         found.tce,
-        &ring[..places],
+        &ring[..found.length],
         &waits,
     )
 }

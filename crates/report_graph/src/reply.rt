@@ -15,11 +15,6 @@ pub fn length(reply: Report) -> usize
     ensures { result ≡ length_of reply }
 {
     match reply {
-        Report::Written { length } => {
-            return length;
-        }
-        Report::Refused { refusal, length } => {
-            return length;
-        }
+        Report::Written { length } | Report::Refused { length, .. } => length,
     }
 }

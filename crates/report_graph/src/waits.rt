@@ -15,9 +15,7 @@ pub fn every_wait(
     requires { WaitsAsk n e from.now to.now waits.old }
     ensures { Waited n e from.now to.now marking.now waits.old waits.new }
 {
-    let mut t = 0;
-    while t < 3 * n + 2 {
+    for t in 0..3 * n + 2 {
         waits[t] = wait_sum(n, e, from, to, marking, t);
-        t += 1;
     }
 }

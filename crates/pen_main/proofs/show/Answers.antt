@@ -5,7 +5,7 @@ use Rattle.std.specs.Io.KnownBytes.{Appends}
 use lib.ListN.{length-append}
 use Rattle.pen_put.specs.Lines.{HasRoom, line_end, item, item_line, pair_line}
 use Rattle.pen_put.proofs.DigitLaws.{digits_short}
-use Rattle.pen_put.proofs.PutLaws.{put_read, put_within}
+use Rattle.pen_put.proofs.PutLaws.{put_length, put_read, put_within}
 use Rattle.pen.proofs.Wrote.{wrote_put}
 use Rattle.pen_main.specs.Page.{number_row, page, shown}
 use Rattle.pen_main.proofs.show.Goals as goal
@@ -26,5 +26,6 @@ slice_bounds-write_all-end g c = sym (length-take-le _ _ (put_within (wrote_put 
 
 pub returns : goal.returns
 returns g c =
-    let is = put_read (page_room _ refl) (wrote_put c.put_page.ensures) in
+    let put = wrote_put c.put_page.ensures in
+    let is = put_read put (omega (arith, put_length put, put_within put (page_room _ refl))) in
     on_ok_weaker c.write_all.result (λ a. subst (Appends _ _) is a) c.write_all.ensures.bytes
