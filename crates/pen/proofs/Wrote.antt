@@ -1,11 +1,11 @@
 -- Laws of what a writer has written: texts one behind the other are one text.
-use mathlib.Core.Path.{◌≡◌, refl}
+use mathlib.Core.Path.{refl}
 use mathlib.Core.List.{List, ◌++◌}
 use native.Mathlib.Numerals.{add-one}
 use native.Mathlib.Omega.{arith}
 use lib.ListN.{length, length-append, length-set}
 use lib.Seq.{length-sets}
-use Prim.Native.Nat.{ℕ, ◌+◌, ◌<◌, ◌≤◌}
+use Prim.Native.Nat.{ℕ, ◌+◌, ◌<◌}
 use Rattle.pen_put.specs.Lines.{Put, series}
 use Rattle.pen_put.proofs.PutLaws.{put_length, series_length, sets_append, then_room}
 use Rattle.pen.specs.declared.Writer.{Writer}
@@ -29,9 +29,6 @@ module _ {w x : Writer} {a : List ℕ} (p : Wrote w a x) where
 pub record WroteRow (before : Writer) (text : ℕ → List ℕ) (i : ℕ) (after : Writer) : Type 0 where
   pub row : Wrote before (series text i) after
 
-pub row_none : {w : Writer} {text : ℕ → List ℕ} → WroteRow w text 0 w
-row_none = record { row = grind arith }
-
 module _ {w x : Writer} {text : ℕ → List ℕ} {i : ℕ} (p : WroteRow w text i x) where
   -- where there was room for more, there is room for the next
   pub row_room : {n : ℕ} → i < n → HasRoomFor w (series text n) → HasRoomFor x (text i)
@@ -40,10 +37,6 @@ module _ {w x : Writer} {text : ℕ → List ℕ} {i : ℕ} (p : WroteRow w text
   -- with it, one more is written
   pub row_more : {y : Writer} → Wrote x (text i) y → WroteRow w text (i + 1) y
   row_more q = record { row = rw (add-one i) (wrote_next p.row q) }
-
-  -- at the end all are
-  pub row_all : {n : ℕ} → i ≤ n → n ≤ i → Wrote w (series text n) x
-  row_all {n} h l = let e : i ≡ n = omega arith in rw e at p.row
 
 -- how lines are put together
 pub ruleset writing = (sets_append, length-append, length-set, length-sets)

@@ -1,5 +1,5 @@
 // Shows the pen at work: lines from the smallest number to the largest, put together as a report's are.
-#![tactic(auto, using(pen::proofs::Wrote::writing), unfolding(crate::specs::Page::page))]
+#![tactic(auto, using(pen::proofs::Wrote::writing), unfolding(crate::specs::Page::number_row, crate::specs::Page::page))]
 
 ghost use Rattle.std.specs.Prelude.{OnOk};
 ghost use Rattle.std.specs.Io.KnownBytes.{Appends};

@@ -1,5 +1,5 @@
 // Plain functions that put a word, a number or a line end into a lent buffer, from a place on.
-#![tactic(auto)]
+#![tactic(auto, using(crate::proofs::PutLaws::putting), unfolding(crate::specs::Lines::line_end))]
 
 ghost use Rattle.pen_put.specs.Digits.{digits};
 ghost use Rattle.pen_put.specs.Lines.{HasRoom, Put, line_end};

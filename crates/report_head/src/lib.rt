@@ -1,5 +1,5 @@
 // The lines before the waits, over plain values: one function a line, each written behind the last.
-#![tactic(auto, using(pen::proofs::Wrote::writing), unfolding(report_text::specs::Text::ops_line, report_text::specs::Text::bound_lines, report_text::specs::Text::circuit_line, report_text::specs::Text::head_text))]
+#![tactic(auto, using(pen::proofs::Wrote::writing), unfolding(report_text::specs::Text::ring_places, report_text::specs::Text::ops_line, report_text::specs::Text::bound_lines, report_text::specs::Text::circuit_line, report_text::specs::Text::head_text))]
 
 ghost use Rattle.pen.specs.Wrote.{HasRoomFor, Wrote};
 ghost use Rattle.report_text.specs.Text.{ops_line, bound_lines, ring_places, circuit_line, head_text};

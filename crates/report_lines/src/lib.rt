@@ -1,5 +1,5 @@
 // The lines of a report, from its numbers: the text of an accepted file, line by line, and that of a refused one, in a lent buffer.
-#![tactic(auto)]
+#![tactic(auto, unfolding(report_text::specs::Text::wait_lines))]
 
 mod waits;
 

@@ -1,10 +1,7 @@
 -- The loop's invariant: the first numbers are written.
 use Rattle.pen_main.specs.Page.{number_row}
-use Rattle.pen.proofs.Wrote.{row_all, row_more, row_none, row_room}
+use Rattle.pen.proofs.Wrote.{row_more, row_room}
 use Rattle.pen_main.proofs.put_row.Goals as goal
-
-pub loop-n-init : goal.loop-n-init
-loop-n-init c = row_none
 
 pub item-requires : goal.item-requires
 unfolding number_row
@@ -12,7 +9,3 @@ item-requires c = row_room c.loop-n.invariant c.loop-n-test.true c.requires
 
 pub loop-n-preserved : goal.loop-n-preserved
 loop-n-preserved c = row_more c.loop-n.invariant c.item.ensures
-
-pub returns : goal.returns
-unfolding number_row
-returns c = row_all c.loop-n.invariant c.loop-n.auto.n-index-end c.loop-n-test.false

@@ -1,10 +1,7 @@
 -- The loop's invariant: the lines of the first t transitions are written.
-use Rattle.pen.proofs.Wrote.{row_all, row_more, row_none, row_room}
+use Rattle.pen.proofs.Wrote.{row_more, row_room}
 use Rattle.report_text.specs.Text.{wait_lines}
 use Rattle.report_lines.proofs.waits.wait_lines.Goals as goal
-
-pub loop-t-init : goal.loop-t-init
-loop-t-init c = row_none
 
 pub pair_line-requires : goal.pair_line-requires
 unfolding wait_lines
@@ -12,7 +9,3 @@ pair_line-requires c = rw c.from.ensures (row_room c.loop-t.invariant c.loop-t-t
 
 pub loop-t-preserved : goal.loop-t-preserved
 loop-t-preserved c = row_more c.loop-t.invariant (rw c.from.ensures at c.pair_line.ensures)
-
-pub returns : goal.returns
-unfolding wait_lines
-returns c = row_all c.loop-t.invariant c.loop-t.auto.t-end c.loop-t-test.false
