@@ -10,22 +10,20 @@ use Rattle.refusal.specs.declared.Refusal.{Refusal}
 use Rattle.marked.specs.Net.{Net, at}
 use Rattle.net.specs.Plan.{wires}
 use Rattle.net.specs.Graph.{net_of}
-use Rattle.firing.specs.declared.step.Answer.{Answer}
-use Rattle.firing.specs.declared.step.Answer.TheVariants.{Fired, Refused}
 use Rattle.firing.specs.Step.{Steps}
 use Rattle.firing.specs.helpers.Few.{Few}
 use Rattle.firing.proofs.Fews.{few_kept}
 use Rattle.firing.proofs.Steps.{steps_firing, steps_long}
 use Rattle.running_entry.specs.declared.RunRecord.{RunRecord}
-use Rattle.running.specs.declared.repeat.End.{End}
-use Rattle.running.specs.declared.repeat.End.TheVariants.{Done, Refused as RunRefused}
 use Rattle.running.specs.Run.{Runs}
 use Rattle.running_entry.specs.Entry.{EntryTaken, advanced}
 use Rattle.running.specs.Run.Runs.{ends, goes, stops}
 use Rattle.running_entry.specs.helpers.Ready.{EntryReady}
+use Rattle.std.specs.Prelude.{Err, Ok}
+use Rattle.refusal.specs.Asking.{Verdict}
 
 -- The count of a run, otherwise written.
-counts : {g : Net} {m ts z : List ℕ} {j k : ℕ} {x : End} → j ≡ k → Runs g m ts j x z → Runs g m ts k x z
+counts : {g : Net} {m ts z : List ℕ} {j k : ℕ} {x : Verdict} → j ≡ k → Runs g m ts j x z → Runs g m ts k x z
 counts {g} {m} {ts} {z} {x} e r = subst (λ (i : ℕ). Runs g m ts i x z) e r
 
 -- The record stands after the first i entries, which have fired, and what is left, run from here, gives what the whole run gives.
@@ -35,7 +33,7 @@ pub record Going (n e : ℕ) (from to m₀ list : List ℕ) (i : ℕ) (rec : Run
   pub counted : rec.fired ≡ rec.next
   pub long : length m ≡ length m₀
   pub few : Few n e from to m
-  pub left : (k : ℕ) (x : End) (z : List ℕ) → Runs (net_of (wires n e from to)) m (drop rec.next list) k x z
+  pub left : (k : ℕ) (x : Verdict) (z : List ℕ) → Runs (net_of (wires n e from to)) m (drop rec.next list) k x z
       → Runs (net_of (wires n e from to)) m₀ list (rec.fired + k) x z
 
 pub going_start : {n e : ℕ} {from to m list : List ℕ} → Few n e from to m → Going n e from to m list 0 (record { places = 3 * n + 2 * e; next = 0; fired = 0 }) m
@@ -49,12 +47,12 @@ module _ {n e : ℕ} {from to m₀ list : List ℕ} {i : ℕ} {rec : RunRecord} 
   pub going_ready : i < length list → EntryReady n from to rec m list
   going_ready h = record { more = omega (arith, g.next); counted = omega (arith, g.counted); edges = e; places = g.places; few = g.few }
 
-  pub going_ends : i ≡ length list → Runs (net_of (wires n e from to)) m₀ list rec.fired Done m
+  pub going_ends : i ≡ length list → Runs (net_of (wires n e from to)) m₀ list rec.fired (Ok tt) m
   going_ends h =
       let d : [] ≡ drop rec.next list = sym (ap (λ (j : ℕ). drop j list) (g.next ∙ h) ∙ drop-length list) in
-      counts (omega arith) (g.left 0 Done m (subst (λ (ts : List ℕ). Runs net m ts 0 Done m) d ends))
+      counts (omega arith) (g.left 0 (Ok tt) m (subst (λ (ts : List ℕ). Runs net m ts 0 (Ok tt) m) d ends))
 
-  module _ {a : Answer} {after : RunRecord} {z : List ℕ} (t : EntryTaken n from to rec m list a after z) where
+  module _ {a : Verdict} {after : RunRecord} {z : List ℕ} (t : EntryTaken n from to rec m list a after z) where
     -- The list from this entry on.
     here : at list rec.next ∷ drop (suc rec.next) list ≡ drop rec.next list
     here = sym (drop-cons list rec.next 0 t.entry.inside)
@@ -67,14 +65,14 @@ module _ {n e : ℕ} {from to m₀ list : List ℕ} {i : ℕ} {rec : RunRecord} 
     pub going_long : length z ≡ length m₀
     going_long = steps_long step ∙ g.long
 
-    module _ (f : a ≡ Fired) where
-      going_next : after ≡ advanced rec Fired
+    module _ (f : a ≡ (Ok tt)) where
+      going_next : after ≡ advanced rec (Ok tt)
       going_next = t.entry.moves ∙ ap (advanced rec) f
 
-      one : Steps net m (at list rec.next) Fired z
-      one = subst (λ (x : Answer). Steps net m (at list rec.next) x z) f step
+      one : Steps net m (at list rec.next) (Ok tt) z
+      one = subst (λ (x : Verdict). Steps net m (at list rec.next) x z) f step
 
-      left_on : (k : ℕ) (x : End) (y : List ℕ) → Runs net z (drop (rec.next + 1) list) k x y → Runs net m₀ list (rec.fired + 1 + k) x y
+      left_on : (k : ℕ) (x : Verdict) (y : List ℕ) → Runs net z (drop (rec.next + 1) list) k x y → Runs net m₀ list (rec.fired + 1 + k) x y
       left_on k x y r =
           let next : drop (rec.next + 1) list ≡ drop (suc rec.next) list = ap (λ (j : ℕ). drop j list) (add-one rec.next) in
           let rest : Runs net z (drop (suc rec.next) list) k x y = subst (λ (ts : List ℕ). Runs net z ts k x y) next r in
@@ -92,8 +90,8 @@ module _ {n e : ℕ} {from to m₀ list : List ℕ} {i : ℕ} {rec : RunRecord} 
             left = left_on;
           })
 
-    pub going_stops : {r : Refusal} → a ≡ Refused r → Runs (net_of (wires n e from to)) m₀ list after.fired (RunRefused r) z
+    pub going_stops : {r : Refusal} → a ≡ Err r → Runs (net_of (wires n e from to)) m₀ list after.fired (RunRefused r) z
     going_stops {r} f =
-        let last : Steps net m (at list rec.next) (Refused r) z = subst (λ (x : Answer). Steps net m (at list rec.next) x z) f step in
+        let last : Steps net m (at list rec.next) (Err r) z = subst (λ (x : Verdict). Steps net m (at list rec.next) x z) f step in
         let kept : rec.fired ≡ after.fired = ap (λ (k : RunRecord). k.fired) (sym (t.entry.moves ∙ ap (advanced rec) f)) in
         counts (omega arith) (g.left 0 (RunRefused r) z (subst (λ (ts : List ℕ). Runs net m ts 0 (RunRefused r) z) here (stops last)))

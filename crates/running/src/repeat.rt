@@ -43,16 +43,16 @@ pub fn run_rows<'a>(
     };
     for _ in list {
         let after = take(rec, marking, n, from, to, list);
-        if let Answer::Refused(refusal) = after.answer {
+        if let Err(refusal) = after.answer {
             return Ran {
                 fired: after.rec.fired,
-                end: End::Refused(refusal),
+                end: Err(refusal),
             };
         }
         rec = after.rec;
     }
     Ran {
         fired: rec.fired,
-        end: End::Done,
+        end: Ok(()),
     }
 }

@@ -9,8 +9,8 @@ loop-init c = going_start c.requires
 pub take-after-requires : goal.take-after-requires
 take-after-requires c = going_ready c.loop.invariant (omega arith)
 
-pub returns-in-Refused : goal.returns-in-Refused
-returns-in-Refused c = going_stops c.loop.invariant c.take-after.ensures c.in-Refused.is
+pub returns-in-Err : goal.returns-in-Err
+returns-in-Err c = going_stops c.loop.invariant c.take-after.ensures c.in-Err.is
 
 pub loop-preserved : goal.loop-preserved
 loop-preserved c = going_on c.loop.invariant c.take-after.ensures c.in_default.is
