@@ -22,14 +22,14 @@ runs_fires (goes s r) = then (steps_firing s refl).fire (runs_fires r)
 runs_fires (stops s) = still (λ p h. ap (λ (x : List ℕ). at x p) (sym (steps_kept s refl)))
 
 -- A run that no entry stopped has fired them all.
-pub runs_whole : {g : Net} {m list z : List ℕ} {k : ℕ} {x : Verdict} → Runs g m list k x z → x ≡ (Ok tt) → k ≡ length list
+pub runs_whole : {g : Net} {m list z : List ℕ} {k : ℕ} {x : Verdict} → Runs g m list k x z → x ≡ Ok tt → k ≡ length list
 runs_whole ends e = refl
 runs_whole (goes s r) e = ap suc (runs_whole r e)
 runs_whole (stops s) e = let w : ◌≡◌ {A = ℕ} 0 1 = cc in absurd (omega arith)
 
 -- A run that was refused was refused at the entry after those that fired, at the bytes that they left.
 pub runs_refused : {g : Net} {m list z : List ℕ} {k : ℕ} {x : Verdict} {r : Refusal}
-    → Runs g m list k x z → x ≡ RunRefused r → (k < length list) × Steps g z (at list k) (Err r) z
+    → Runs g m list k x z → x ≡ Err r → (k < length list) × Steps g z (at list k) (Err r) z
 runs_refused ends e = let w : ◌≡◌ {A = ℕ} 0 1 = cc in absurd (omega arith)
 runs_refused (goes s r) e = let w = runs_refused r e in (omega (arith, w.0), w.1)
 runs_refused {g} {z} {r} (stops {m} {t} {r = q} s) e =

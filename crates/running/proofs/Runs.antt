@@ -1,7 +1,7 @@
 -- A run as its loop goes: at the start, after an entry that fired, at one that is refused, and at the end.
 use mathlib.Core.Path.{◌≡◌, ◌∙◌, ap, refl, subst, sym}
 use mathlib.Core.List.{List, [], ◌∷◌}
-use Prim.Native.Nat.{◌*◌, ◌+◌, ◌<◌, suc, ℕ}
+use Prim.Native.Nat.{◌*◌, ◌+◌, suc, ℕ}
 use native.Mathlib.Numerals.{add-one}
 use native.Mathlib.Omega.{arith}
 use lib.ListN.{drop, length}
@@ -18,7 +18,6 @@ use Rattle.running_entry.specs.declared.RunRecord.{RunRecord}
 use Rattle.running.specs.Run.{Runs}
 use Rattle.running_entry.specs.Entry.{EntryTaken, advanced}
 use Rattle.running.specs.Run.Runs.{ends, goes, stops}
-use Rattle.running_entry.specs.helpers.Ready.{EntryReady}
 use Rattle.std.specs.Prelude.{Err, Ok}
 use Rattle.refusal.specs.Asking.{Verdict}
 
@@ -43,14 +42,10 @@ module _ {n e : ℕ} {from to m₀ list : List ℕ} {i : ℕ} {rec : RunRecord} 
   abbrev net : Net
   net = net_of (wires n e from to)
 
-  -- The entry at the record's list position can be taken.
-  pub going_ready : i < length list → EntryReady n from to rec m list
-  going_ready h = record { more = omega (arith, g.next); counted = omega (arith, g.counted); edges = e; places = g.places; few = g.few }
-
-  pub going_ends : i ≡ length list → Runs (net_of (wires n e from to)) m₀ list rec.fired (Ok tt) m
+  pub going_ends : i ≡ length list → Runs (net_of (wires n e from to)) m₀ list (length list) (Ok tt) m
   going_ends h =
       let d : [] ≡ drop rec.next list = sym (ap (λ (j : ℕ). drop j list) (g.next ∙ h) ∙ drop-length list) in
-      counts (omega arith) (g.left 0 (Ok tt) m (subst (λ (ts : List ℕ). Runs net m ts 0 (Ok tt) m) d ends))
+      counts (omega (arith, g.counted, g.next)) (g.left 0 (Ok tt) m (subst (λ (ts : List ℕ). Runs net m ts 0 (Ok tt) m) d ends))
 
   module _ {a : Verdict} {after : RunRecord} {z : List ℕ} (t : EntryTaken n from to rec m list a after z) where
     -- The list from this entry on.
@@ -65,7 +60,7 @@ module _ {n e : ℕ} {from to m₀ list : List ℕ} {i : ℕ} {rec : RunRecord} 
     pub going_long : length z ≡ length m₀
     going_long = steps_long step ∙ g.long
 
-    module _ (f : a ≡ (Ok tt)) where
+    module _ (f : a ≡ Ok tt) where
       going_next : after ≡ advanced rec (Ok tt)
       going_next = t.entry.moves ∙ ap (advanced rec) f
 
@@ -90,8 +85,8 @@ module _ {n e : ℕ} {from to m₀ list : List ℕ} {i : ℕ} {rec : RunRecord} 
             left = left_on;
           })
 
-    pub going_stops : {r : Refusal} → a ≡ Err r → Runs (net_of (wires n e from to)) m₀ list after.fired (RunRefused r) z
+    pub going_stops : {r : Refusal} → a ≡ Err r → Runs (net_of (wires n e from to)) m₀ list after.fired (Err r) z
     going_stops {r} f =
         let last : Steps net m (at list rec.next) (Err r) z = subst (λ (x : Verdict). Steps net m (at list rec.next) x z) f step in
         let kept : rec.fired ≡ after.fired = ap (λ (k : RunRecord). k.fired) (sym (t.entry.moves ∙ ap (advanced rec) f)) in
-        counts (omega arith) (g.left 0 (RunRefused r) z (subst (λ (ts : List ℕ). Runs net m ts 0 (RunRefused r) z) here (stops last)))
+        counts (omega arith) (g.left 0 (Err r) z (subst (λ (ts : List ℕ). Runs net m ts 0 (Err r) z) here (stops last)))

@@ -11,4 +11,4 @@ use Rattle.refusal.specs.Asking.{Verdict}
 pub data Runs (g : Net) : List ℕ → List ℕ → ℕ → Verdict → List ℕ → Type 0 where
   ends : {m : List ℕ} → Runs g m [] 0 (Ok tt) m
   goes : {m y z ts : List ℕ} {t k : ℕ} {x : Verdict} → Steps g m t (Ok tt) y → Runs g y ts k x z → Runs g m (t ∷ ts) (suc k) x z
-  stops : {m z ts : List ℕ} {t : ℕ} {r : Refusal} → Steps g m t (Err r) z → Runs g m (t ∷ ts) 0 (RunRefused r) z
+  stops : {m z ts : List ℕ} {t : ℕ} {r : Refusal} → Steps g m t (Err r) z → Runs g m (t ∷ ts) 0 (Err r) z
