@@ -10,17 +10,5 @@ use net::{EDGES, FEWEST_EDGES, FEWEST_OPERATIONS, OPERATIONS};
 pub fn counted(n: usize, e: usize) -> bool
     ensures { Says (Counted n e) result }
 {
-    if n < FEWEST_OPERATIONS {
-        return false;
-    }
-    if OPERATIONS < n {
-        return false;
-    }
-    if e < FEWEST_EDGES {
-        return false;
-    }
-    if EDGES < e {
-        return false;
-    }
-    true
+    (FEWEST_OPERATIONS..=OPERATIONS).contains(&n) && (FEWEST_EDGES..=EDGES).contains(&e)
 }
