@@ -15,22 +15,7 @@ fn allowed(n: usize, from: u8, to: u8, mark: u8, fourth: u8) -> bool
     requires { n ≤ most_operations }
     ensures { Says (RowAllowed n from to mark fourth) result }
 {
-    if n < from as usize {
-        return false;
-    }
-    if to < 1 {
-        return false;
-    }
-    if n + 1 < to as usize {
-        return false;
-    }
-    if 1 < mark {
-        return false;
-    }
-    if fourth != 0 {
-        return false;
-    }
-    true
+    usize::from(from) <= n && (1..=n + 1).contains(&usize::from(to)) && mark <= 1 && fourth == 0
 }
 
 // Whether the extremes of every row are allowed: then every edge is.
@@ -45,16 +30,14 @@ fn plain<'a>(
     requires { (n ≤ most_operations) × (e ≤ most_edges) }
     ensures { result ≡ true → Kept (row6 (rows n e [] from.now to.now mark.now buffers.now)) }
 {
-    if smallest(e, to) < 1 {
-        return false;
-    }
-    allowed(
-        n,
-        largest(e, from),
-        largest(e, to),
-        largest(e, mark),
-        largest(e, buffers),
-    )
+    1 <= smallest(e, to)
+        && allowed(
+            n,
+            largest(e, from),
+            largest(e, to),
+            largest(e, mark),
+            largest(e, buffers),
+        )
 }
 
 pub fn first_wrong<'a>(
@@ -71,12 +54,10 @@ pub fn first_wrong<'a>(
     if plain(n, e, from, to, mark, buffers) {
         return Found::Nothing;
     }
-    let mut k = 0;
-    while k < e {
+    for k in 0..e {
         if !allowed(n, from[k], to[k], mark[k], buffers[k]) {
             return Found::At(k);
         }
-        k += 1;
     }
     Found::Nothing
 }

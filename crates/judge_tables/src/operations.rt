@@ -12,25 +12,17 @@ use refusal::Found;
 fn timely(time: u32) -> bool
     ensures { Says (Duration time) result }
 {
-    if time < SHORTEST_TIME {
-        return false;
-    }
-    if TIME < time {
-        return false;
-    }
-    true
+    (SHORTEST_TIME..=TIME).contains(&time)
 }
 
 pub fn first_late(n: usize, times: &[u32; OPERATIONS]) -> Found
     requires { n ≤ most_operations }
     ensures { Finds (row5 (rows n 0 times.now [] [] [] [])) result }
 {
-    let mut i = 1;
-    while i <= n {
+    for i in 1..n + 1 {
         if !timely(times[i - 1]) {
             return Found::At(i);
         }
-        i += 1;
     }
     Found::Nothing
 }

@@ -8,15 +8,14 @@ pub returns-then-plain : goal.returns-then-plain
 returns-then-plain c = c.plain.ensures c.if-plain.true
 
 pub loop-k-init : goal.loop-k-init
-loop-k-init c = (omega arith, λ y l d. absurd (let z : ⊥ = omega arith in z))
+loop-k-init c = λ y l d. absurd (let z : ⊥ = omega arith in z)
 
 pub returns-then-not-allowed : goal.returns-then-not-allowed
 returns-then-not-allowed c =
-    record { place = omega arith; broken = denied c.allowed.ensures c.if-not-allowed.true; lower = c.loop-k.invariant.1 }
+    record { place = omega arith; broken = denied c.allowed.ensures c.if-not-allowed.true; lower = c.loop-k.invariant }
 
 pub loop-k-preserved : goal.loop-k-preserved
-loop-k-preserved c =
-    (omega arith, below_more _ _ c.loop-k.invariant.1 (λ d. said c.allowed.ensures c.if-not-allowed.false))
+loop-k-preserved c = below_more _ _ c.loop-k.invariant (λ d. said c.allowed.ensures c.if-not-allowed.false)
 
 pub returns : goal.returns
-returns c = λ y d. c.loop-k.invariant.1 y (omega arith) d
+returns c = λ y d. c.loop-k.invariant y (omega arith) d

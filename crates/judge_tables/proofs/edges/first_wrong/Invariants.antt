@@ -2,12 +2,8 @@
 use Rattle.net.specs.Rules.{Allowed, Edge}
 use Rattle.net.specs.Plan.{rows}
 use mathlib.Core.List.{[]}
-use Prim.Native.Nat.{ℕ, ◌≤◌, ◌<◌, ◌-◌}
+use Prim.Native.Nat.{ℕ, ◌<◌}
 use Rattle.judge_tables.proofs.edges.first_wrong.Given as goal
 
 abbrev pub invariant-loop-k : goal.invariant-loop-k
-invariant-loop-k l =
-    (l.k ≤ l.e) × ((y : ℕ) → y < l.k → Edge (rows l.n l.e [] l.from l.to l.mark l.buffers) y → Allowed (rows l.n l.e [] l.from l.to l.mark l.buffers) y)
-
-abbrev pub decreases-loop-k : goal.decreases-loop-k
-decreases-loop-k l = l.e - l.k
+invariant-loop-k l = (y : ℕ) → y < l.k → Edge (rows l.n l.e [] l.from l.to l.mark l.buffers) y → Allowed (rows l.n l.e [] l.from l.to l.mark l.buffers) y

@@ -5,25 +5,21 @@ use native.Mathlib.Omega.{arith}
 use Rattle.judge_tables.proofs.operations.first_late.Goals as goal
 
 pub loop-i-init : goal.loop-i-init
-loop-i-init c = (omega arith, omega arith, λ y l d. absurd (let z : ⊥ = omega arith in z))
+loop-i-init c = λ y l d. absurd (let z : ⊥ = omega arith in z)
 
 pub bounds-times-i : goal.bounds-times-i
 bounds-times-i c = omega (arith, c.requires)
-
-pub timely-requires : goal.timely-requires
-timely-requires c = tt
 
 pub returns-then-not-timely : goal.returns-then-not-timely
 returns-then-not-timely c =
     record {
       place = record { low_met = omega arith; high_met = omega arith };
       broken = denied c.timely.ensures c.if-not-timely.true;
-      lower = c.loop-i.invariant.2;
+      lower = c.loop-i.invariant;
     }
 
 pub loop-i-preserved : goal.loop-i-preserved
-loop-i-preserved c =
-    (omega arith, omega arith, below_more _ _ c.loop-i.invariant.2 (λ d. said c.timely.ensures c.if-not-timely.false))
+loop-i-preserved c = below_more _ _ c.loop-i.invariant (λ d. said c.timely.ensures c.if-not-timely.false)
 
 pub returns : goal.returns
-returns c = λ y d. c.loop-i.invariant.2 y (omega arith) d
+returns c = λ y d. c.loop-i.invariant y (omega arith) d
