@@ -10,7 +10,6 @@ ghost use Rattle.net.specs.Plan.{wires};
 ghost use Rattle.judge_tour.specs.helpers.Ended.{Roomy};
 ghost use Rattle.judge_links.specs.helpers.Ticks.{Bound, Ticks};
 
-use casts::byte_index;
 use net::{EDGES, NODES};
 use refusal::Found;
 
@@ -21,11 +20,8 @@ fn tick(e: usize, ends: &[u8; EDGES]) -> [u8; NODES]
     ensures { Ticks e ends.now result }
 {
     let mut seen = [0u8; NODES];
-    let mut k = 0;
-    while k < e {
-        let node = byte_index(ends[k]);
-        seen[node] = 1;
-        k += 1;
+    for &end in &ends[..e] {
+        seen[usize::from(end)] = 1;
     }
     seen
 }
@@ -34,16 +30,7 @@ fn tick(e: usize, ends: &[u8; EDGES]) -> [u8; NODES]
 fn bound(n: usize, node: usize, out: u8, into: u8) -> bool
     ensures { Says (Bound n node out into) result }
 {
-    if node <= n {
-        if out != 1 {
-            return false;
-        }
-        if node == 0 {
-            return true;
-        }
-        return into == 1;
-    }
-    into == 1
+    (n < node || out == 1) && (node == 0 || into == 1)
 }
 
 // The lowest node that lacks an edge out or in.
@@ -53,13 +40,10 @@ pub fn first_bare<'a>(n: usize, e: usize, from: &'a [u8; EDGES], to: &'a [u8; ED
 {
     let out = tick(e, from);
     let into = tick(e, to);
-    let last = n + 1;
-    let mut node = 0;
-    while node <= last {
+    for node in 0..n + 2 {
         if !bound(n, node, out[node], into[node]) {
             return Found::At(node);
         }
-        node += 1;
     }
     Found::Nothing
 }

@@ -1,21 +1,24 @@
--- Each return is one of the two marks, where the node needs it.
-use Rattle.refusal.specs.helpers.Answers.{fails, holds}
-use Rattle.judge_links.specs.helpers.Ticks.{Bound}
+-- The two marks, each where the node needs it.
+use Prim.Native.Nat.{ℕ}
+use mathlib.Core.Bool.{Bool, ◌&&◌, ◌||◌, false, true}
+use mathlib.Core.Path.{◌≡◌}
 use native.Mathlib.Omega.{arith}
-use Rattle.refusal.proofs.Answers.{says_eqb}
 use borrow.Author.Rules.{rules}
+use lib.Dec.{eqb, ltb}
+use Rattle.std.proofs.lemmas.Bool.Decides.{nat_tests}
+use Rattle.refusal.specs.helpers.Answers.{Says, fails, holds}
+use Rattle.judge_links.specs.helpers.Ticks.{Bound}
 use Rattle.judge_links.proofs.bound.Goals as goal
 
-pub returns-then-out-ne1 : goal.returns-then-out-ne1
-returns-then-out-ne1 c = fails (λ h. c.if-out-ne1.true (h.leaves (omega arith)))
+bound_said : {n node out into : ℕ} {r : Bool} → r ≡ ((ltb n node || eqb out 1) && (eqb node 0 || eqb into 1)) → Says (Bound n node out into) r
+bound_said {n} {node} {out} {into} {r = true} e = holds (record { leaves = λ l. grind (arith, nat_tests); enters = λ l. grind (arith, nat_tests) })
+bound_said {n} {node} {out} {into} {r = false} e = fails (λ b. grind (arith, nat_tests))
 
 pub returns-then-node-eq0 : goal.returns-then-node-eq0
-returns-then-node-eq0 c = holds (search rules)
+returns-then-node-eq0 c = bound_said (search rules)
 
-pub returns-then-node-n : goal.returns-then-node-n
-returns-then-node-n c =
-    says_eqb {P = Bound c.args.n c.args.node c.args.out c.args.into} (λ e. record { leaves = λ l. c.if-out-ne1.false; enters = λ l. e }) (λ h. h.enters (omega arith))
+pub returns-else-node-eq0 : goal.returns-else-node-eq0
+returns-else-node-eq0 c = bound_said (search rules)
 
-pub returns : goal.returns
-returns c =
-    says_eqb {P = Bound c.args.n c.args.node c.args.out c.args.into} (λ e. record { leaves = λ l. absurd (omega arith); enters = λ l. e }) (λ h. h.enters (omega arith))
+pub returns-else-out-eq1 : goal.returns-else-out-eq1
+returns-else-out-eq1 c = bound_said (search rules)
