@@ -1,3 +1,4 @@
+pub mod Asking
 pub mod Dying
 pub mod Ways
 pub mod Reaching

@@ -31,8 +31,7 @@ fn judge_tokens<'a>(
     requires marked { Marked n e mark.now }
     ensures { Judged (from9 (tokened n e from.now to.now mark.now)) result }
 {
-    let dead = first_dead(n, e, from, to, mark);
-    if let Found::At(t) = dead {
+    if let Found::At(t) = first_dead(n, e, from, to, mark) {
         return refuse(9, t);
     }
     Verdict::Accepted
@@ -50,8 +49,7 @@ fn judge_joins<'a>(
     requires marked { Marked n e mark.now }
     ensures { Judged (from8 (tokened n e from.now to.now mark.now)) result }
 {
-    let apart = first_apart(n, e, from, to);
-    if let Found::At(v) = apart {
+    if let Found::At(v) = first_apart(n, e, from, to) {
         return refuse(8, v);
     }
     judge_tokens(n, e, from, to, mark)
@@ -69,8 +67,7 @@ fn judge_links<'a>(
     requires marked { Marked n e mark.now }
     ensures { Judged (from7 (tokened n e from.now to.now mark.now)) result }
 {
-    let bare = first_bare(n, e, from, to);
-    if let Found::At(v) = bare {
+    if let Found::At(v) = first_bare(n, e, from, to) {
         return refuse(7, v);
     }
     judge_joins(n, e, from, to, mark)
@@ -88,8 +85,7 @@ fn judge_edges<'a>(
     requires { Counted n e }
     ensures { Judged (from6 (rows n e [] from.now to.now mark.now buffers.now)) result }
 {
-    let wrong = first_wrong(n, e, from, to, mark, buffers);
-    if let Found::At(k) = wrong {
+    if let Found::At(k) = first_wrong(n, e, from, to, mark, buffers) {
         return refuse(6, k);
     }
     judge_links(n, e, from, to, mark)
@@ -108,8 +104,7 @@ pub fn judge<'a>(
     requires { Counted n e }
     ensures { Judged (graph_rows (rows n e times.now from.now to.now mark.now buffers.now)) result }
 {
-    let late = first_late(n, times);
-    if let Found::At(i) = late {
+    if let Found::At(i) = first_late(n, times) {
         return refuse(5, i);
     }
     judge_edges(n, e, from, to, mark, buffers)

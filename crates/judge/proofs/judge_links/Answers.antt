@@ -1,28 +1,9 @@
 -- Every node has its edges, and the next row is asked; or the lowest that lacks one.
-use native.Mathlib.Omega.{arith}
-use mathlib.Core.Path.{refl}
-use Rattle.refusal.specs.Asking.{Kept, Lowest}
-use Rattle.refusal.proofs.Asked.{found_at, found_none, given_here, judged_next, judged_refused}
-use Rattle.net.specs.Plan.{Plan}
-use Rattle.net.specs.Rules.{row7}
-use Rattle.judge.specs.helpers.Rest.{tokened}
+use Rattle.judge.proofs.Asking.{asked_at, asked_none}
 use Rattle.judge.proofs.judge_links.Goals as goal
 
-pub refuse-requires : goal.refuse-requires
-refuse-requires c =
-    let plan : Plan = tokened c.args.n c.args.e c.args.from.now c.args.to.now c.args.mark.now in
-    let lowest : Lowest (row7 (plan)) c.in-At.v = (found_at (row7 (plan)) c.first_bare-bare.result c.in-At.is c.first_bare-bare.ensures) in
-    omega (arith, (lowest).place, c.requires.wired.operations)
-
 pub returns-in-At : goal.returns-in-At
-returns-in-At c =
-    let plan : Plan = tokened c.args.n c.args.e c.args.from.now c.args.to.now c.args.mark.now in
-    let lowest : Lowest (row7 (plan)) c.in-At.v = (found_at (row7 (plan)) c.first_bare-bare.result c.in-At.is c.first_bare-bare.ensures) in
-    let x = c.in-At.v in
-    judged_refused (record { number = 7; place = x }) c.refuse.ensures (given_here (record { number = 7; place = x }) refl (lowest))
+returns-in-At c = asked_at c.in-At.is c.first_bare.ensures c.refuse.ensures
 
 pub returns : goal.returns
-returns c =
-    let plan : Plan = tokened c.args.n c.args.e c.args.from.now c.args.to.now c.args.mark.now in
-    let kept : Kept (row7 (plan)) = found_none (row7 (plan)) c.first_bare-bare.result c.in_default.is c.first_bare-bare.ensures in
-    judged_next (kept) c.judge_joins.ensures
+returns c = asked_none c.in_default.is c.first_bare.ensures c.judge_joins.ensures
