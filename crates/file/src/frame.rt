@@ -6,20 +6,13 @@ ghost use Rattle.file.specs.Frame.{CountsKept, EndsWithMagic, Laid, Signed, Size
 
 use crate::{EDGE, LENGTH, MAGIC, OPERATION, SHORTEST};
 use file_trailer::{TRAILER, numbers};
-use little::byte;
 use refusal::{Verdict, refuse};
 
 // Row 1: the length is within its limits.
 fn sized(file: &[u8]) -> bool
     ensures { Says (Sized file.now) result }
 {
-    if file.len() < SHORTEST {
-        return false;
-    }
-    if LENGTH < file.len() {
-        return false;
-    }
-    true
+    (SHORTEST..=LENGTH).contains(&file.len())
 }
 
 // AMG1 stands at the very end.
@@ -27,15 +20,7 @@ fn ends(file: &[u8]) -> bool
     requires { Sized file.now }
     ensures { Says (EndsWithMagic file.now) result }
 {
-    let at = file.len() - 4;
-    let mut i = 0;
-    while i < 4 {
-        if byte(file, at + i) != MAGIC[i] {
-            return false;
-        }
-        i += 1;
-    }
-    true
+    file.ends_with(&MAGIC)
 }
 
 // Row 2: layout 1, a zero byte, and AMG1.
@@ -44,13 +29,7 @@ fn signed(file: &[u8]) -> bool
     ensures { Says (Signed file.now) result }
 {
     let at = file.len() - TRAILER;
-    if byte(file, at + 10) != 1 {
-        return false;
-    }
-    if byte(file, at + 11) != 0 {
-        return false;
-    }
-    ends(file)
+    file[at + 10] == 1 && file[at + 11] == 0 && ends(file)
 }
 
 // Row 3: N and E are within their limits.
@@ -60,16 +39,6 @@ fn counted(file: &[u8]) -> bool
 {
     let t = numbers(file);
     judge_counts::counted(t.operations, t.edges)
-}
-
-// One table stands at 0, and the other right behind its bytes.
-fn behind(first: usize, second: usize, bytes: usize) -> bool
-    ensures { Says ((first ≡ 0) × (second ≡ bytes)) result }
-{
-    if first != 0 {
-        return false;
-    }
-    second == bytes
 }
 
 // Row 4. The tables are never empty, so the one that comes first stands at 0 and the other right behind it.
@@ -82,16 +51,9 @@ fn laid(file: &[u8]) -> bool
     let before = file.len() - TRAILER;
     let operations = OPERATION * t.operations;
     let edges = EDGE * t.edges;
-    if t.back != before {
-        return false;
-    }
-    if operations + edges != before {
-        return false;
-    }
-    if behind(t.optable, t.edgetable, operations) {
-        return true;
-    }
-    behind(t.edgetable, t.optable, edges)
+    t.back == before
+        && operations + edges == before
+        && (t.optable == 0 && t.edgetable == operations || t.edgetable == 0 && t.optable == edges)
 }
 
 // The first of rows 1 to 4 that is broken, or accepted.

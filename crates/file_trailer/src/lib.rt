@@ -27,10 +27,10 @@ pub fn numbers(file: &[u8]) -> Trailer
 {
     let at = file.len() - TRAILER;
     Trailer {
-        optable: word(file, at) as usize,
-        operations: word(file, at + 2) as usize,
-        edgetable: word(file, at + 4) as usize,
-        edges: word(file, at + 6) as usize,
-        back: word(file, at + 8) as usize,
+        optable: usize::from(word(file, at)),
+        operations: usize::from(word(file, at + 2)),
+        edgetable: usize::from(word(file, at + 4)),
+        edges: usize::from(word(file, at + 6)),
+        back: usize::from(word(file, at + 8)),
     }
 }

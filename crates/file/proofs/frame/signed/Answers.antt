@@ -1,21 +1,29 @@
--- The two bytes and the ending, one after the other.
-use Rattle.refusal.specs.helpers.Answers.{fails}
-use mathlib.Core.Path.{sym, ◌∙◌}
+-- The two bytes and the ending, all at once.
+use Prim.Native.Nat.{ℕ, ◌+◌}
+use mathlib.Core.Bool.{Bool, ◌&&◌, false, true}
+use mathlib.Core.List.{List}
+use mathlib.Core.Path.{◌≡◌}
+use native.Mathlib.Omega.{arith}
+use borrow.Author.Rules.{rules}
+use lib.Dec.{eqb}
+use Rattle.std.proofs.lemmas.Bool.Decides.{nat_tests}
+use Rattle.refusal.specs.helpers.Answers.{Says, fails, holds}
+use Rattle.little.specs.Little.{byte_at}
 use Rattle.file_trailer.specs.File.{trailer_at}
-use Rattle.refusal.proofs.Answers.{says_map}
+use Rattle.file.specs.Frame.{EndsWithMagic, Signed}
 use Rattle.file.proofs.frame.signed.Goals as goal
 
-pub returns-then-byte-ne1 : goal.returns-then-byte-ne1
-unfolding trailer_at
-returns-then-byte-ne1 c = fails (λ h. c.if-byte-ne1.true (c.byte.ensures ∙ h.layout))
+signed_said : {f : List ℕ} {r s : Bool} → Says (EndsWithMagic f) s → r ≡ (eqb (byte_at f (trailer_at f + 10)) 1 && eqb (byte_at f (trailer_at f + 11)) 0 && s)
+    → Says (Signed f) r
+signed_said {r = true} (holds p) e = holds (record { layout = grind (arith, nat_tests); zero_byte = grind (arith, nat_tests); ends = p })
+signed_said {r = true} (fails n) e = absurd (let z : ⊥ = grind (arith, nat_tests) in z)
+signed_said {r = false} (holds p) e = fails (λ h. grind (arith, nat_tests))
+signed_said {r = false} (fails n) e = fails (λ h. n h.ends)
 
-pub returns-then-byte-ne0 : goal.returns-then-byte-ne0
+pub returns-then-file-at-eq0 : goal.returns-then-file-at-eq0
 unfolding trailer_at
-returns-then-byte-ne0 c = fails (λ h. c.if-byte-ne0.true (c.byte-2.ensures ∙ h.zero_byte))
+returns-then-file-at-eq0 c = signed_said c.ends.ensures (search rules)
 
-pub returns : goal.returns
+pub returns-else-file-at-eq0 : goal.returns-else-file-at-eq0
 unfolding trailer_at
-returns c =
-    let layout = sym c.byte.ensures ∙ c.if-byte-ne1.false in
-    let zero_byte = sym c.byte-2.ensures ∙ c.if-byte-ne0.false in
-    says_map (λ e. record { layout = layout; zero_byte = zero_byte; ends = e }) (λ h. h.ends) c.ends.ensures
+returns-else-file-at-eq0 c = rw c.if-file-at-eq0.false (fails (λ h. grind (arith, nat_tests, h.layout, h.zero_byte)))
