@@ -1,3 +1,2 @@
 pub mod Order
-pub mod Inside
 pub mod Labels

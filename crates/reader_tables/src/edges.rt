@@ -6,17 +6,17 @@ ghost use Rattle.reader_tables.specs.helpers.Tabled.{Tabled};
 
 use file::EDGE;
 use file_trailer::Trailer;
-use little::byte;
 use net::EDGES;
 
 // Byte k of edge e.
+#[tactic(auto, unfolding(file_trailer::specs::File::edge_byte))]
 pub fn edge_byte(file: &[u8], t: Trailer, e: usize, k: usize) -> u8
     requires opened { Opened file.now t }
     requires e_bound { e < edges_of file.now }
     requires k_bound { k < 4 }
     ensures { result ≡ edge_byte file.now e k }
 {
-    byte(file, t.edgetable + EDGE * e + k)
+    file[t.edgetable + EDGE * e + k]
 }
 
 // The edge table into four arrays of zeros, in one pass.
@@ -32,13 +32,10 @@ pub fn edge_table(
     requires tabled { Tabled file.now 0 from.old to.old mark.old buffers.old }
     ensures { Tabled file.now (edges_of file.now) from.new to.new mark.new buffers.new }
 {
-    let n = t.edges;
-    let mut e = 0;
-    while e < n {
+    for e in 0..t.edges {
         from[e] = edge_byte(file, t, e, 0);
         to[e] = edge_byte(file, t, e, 1);
         mark[e] = edge_byte(file, t, e, 2);
         buffers[e] = edge_byte(file, t, e, 3);
-        e += 1;
     }
 }

@@ -11,6 +11,7 @@ use little::quad;
 use net::OPERATIONS;
 
 // The time of operation i.
+#[tactic(auto, unfolding(file_trailer::specs::File::operation_time))]
 pub fn time(file: &[u8], t: Trailer, i: usize) -> u32
     requires opened { Opened file.now t }
     requires within { Within 1 (operations_of file.now) i }
@@ -24,12 +25,9 @@ pub fn times(file: &[u8], t: Trailer) -> [u32; OPERATIONS]
     requires { Opened file.now t }
     ensures { Filled (operations_of file.now) most_operations (λ i. operation_time file.now (i + 1)) result }
 {
-    let n = t.operations;
-    let mut xs = [0u32; OPERATIONS];
-    let mut i = 0;
-    while i < n {
+    let mut xs = [0; OPERATIONS];
+    for i in 0..t.operations {
         xs[i] = time(file, t, i + 1);
-        i += 1;
     }
     xs
 }
