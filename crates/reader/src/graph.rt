@@ -62,8 +62,7 @@ impl Graph {
     pub fn from_file(file: &[u8]) -> Look
         ensures { LookReply file.now result }
     {
-        let verdict = framed(file);
-        if let Verdict::Refused(refusal) = verdict {
+        if let Verdict::Refused(refusal) = framed(file) {
             return refused(refusal);
         }
         let g = read(file, numbers(file));
