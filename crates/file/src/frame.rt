@@ -6,7 +6,7 @@ ghost use Rattle.file.specs.Frame.{CountsKept, EndsWithMagic, Laid, Signed, Size
 
 use crate::{EDGE, LENGTH, MAGIC, OPERATION, SHORTEST};
 use file_trailer::{TRAILER, numbers};
-use refusal::{Verdict, refuse};
+use refusal::{Reason, Verdict, refuse};
 
 // Row 1: the length is within its limits.
 fn sized(file: &[u8]) -> bool
@@ -61,16 +61,16 @@ pub fn framed(file: &[u8]) -> Verdict
     ensures { Judged (frame_rows file.now) result }
 {
     if !sized(file) {
-        return refuse(1, 0);
+        return Err(refuse(Reason::Length, 0));
     }
     if !signed(file) {
-        return refuse(2, 0);
+        return Err(refuse(Reason::Trailer, 0));
     }
     if !counted(file) {
-        return refuse(3, 0);
+        return Err(refuse(Reason::Counts, 0));
     }
     if !laid(file) {
-        return refuse(4, 0);
+        return Err(refuse(Reason::Tables, 0));
     }
-    Verdict::Accepted
+    Ok(())
 }

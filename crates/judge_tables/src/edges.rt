@@ -8,7 +8,6 @@ ghost use Rattle.net.specs.Rules.{RowAllowed, row6};
 
 use judge_extremes::{largest, smallest};
 use net::EDGES;
-use refusal::Found;
 
 // Whether the four bytes of a row are allowed.
 fn allowed(n: usize, from: u8, to: u8, mark: u8, fourth: u8) -> bool
@@ -47,17 +46,17 @@ pub fn first_wrong<'a>(
     to: &'a [u8; EDGES],
     mark: &'a [u8; EDGES],
     buffers: &'a [u8; EDGES],
-) -> Found
+) -> Option<usize>
     requires { (n ≤ most_operations) × (e ≤ most_edges) }
     ensures { Finds (row6 (rows n e [] from.now to.now mark.now buffers.now)) result }
 {
     if plain(n, e, from, to, mark, buffers) {
-        return Found::Nothing;
+        return None;
     }
     for k in 0..e {
         if !allowed(n, from[k], to[k], mark[k], buffers[k]) {
-            return Found::At(k);
+            return Some(k);
         }
     }
-    Found::Nothing
+    None
 }

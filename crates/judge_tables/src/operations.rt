@@ -6,7 +6,6 @@ ghost use Rattle.net.specs.Plan.{rows};
 ghost use Rattle.net.specs.Rules.{row5};
 
 use net::{OPERATIONS, SHORTEST_TIME, TIME};
-use refusal::Found;
 
 // Whether a time is within its limits.
 fn timely(time: u32) -> bool
@@ -15,14 +14,14 @@ fn timely(time: u32) -> bool
     (SHORTEST_TIME..=TIME).contains(&time)
 }
 
-pub fn first_late(n: usize, times: &[u32; OPERATIONS]) -> Found
+pub fn first_late(n: usize, times: &[u32; OPERATIONS]) -> Option<usize>
     requires { n ≤ most_operations }
     ensures { Finds (row5 (rows n 0 times.now [] [] [] [])) result }
 {
     for i in 1..n + 1 {
         if !timely(times[i - 1]) {
-            return Found::At(i);
+            return Some(i);
         }
     }
-    Found::Nothing
+    None
 }
