@@ -1,12 +1,11 @@
 // What a line is made of: words, numbers behind a blank, and the lent memory, which ends it.
 #![tactic(auto)]
 
-ghost use Rattle.std.specs.Prelude.{◌≡◌, ◌++◌, take, IfOk, OnErr, OnOk};
+ghost use Rattle.std.specs.Prelude.{ℕ, ◌≡◌, ◌++◌, map, take, IfOk, OnErr, OnOk};
 ghost use Rattle.std.specs.Io.KnownBytes.{Appends};
 ghost use Rattle.records_print.specs.Page.{Gathered, Page, Roomy};
 ghost use Rattle.records_print.specs.Text.{head_text, memory_text, number_text};
 
-use casts::byte_word;
 use refusal::Refusal;
 use std::io;
 use std::io::Write;
@@ -37,8 +36,8 @@ pub fn head<W: Write>(output: &mut W, name: &[u8], refusal: Refusal) -> io::Resu
     ensures { OnOk result (Appends (W.contents output.old) (W.contents output.new) (head_text name.now refusal)) }
 {
     word(output, name)?;
-    number(output, refusal.number as u64)?;
-    number(output, refusal.place as u64)
+    number(output, u64::from(refusal.number))?;
+    number(output, u64::from(refusal.place))
 }
 
 fn out<W: Write>(output: &mut W, page: &[u8], at: usize) -> io::Result<()>
@@ -62,8 +61,32 @@ fn turn<W: Write>(output: &mut W, page: &[u8], at: usize) -> io::Result<usize>
     Ok(at)
 }
 
+// A number of the lent memory: a byte of a marking or a buffer, or an entry of a list.
+pub trait Entry: Copy {
+    ghost value: { Self → ℕ };
+
+    fn long(self) -> u64
+        ensures { result ≡ value self };
+}
+
+impl Entry for u8 {
+    ghost value = { λ x. x };
+
+    fn long(self) -> u64 {
+        u64::from(self)
+    }
+}
+
+impl Entry for u16 {
+    ghost value = { λ x. x };
+
+    fn long(self) -> u64 {
+        u64::from(self)
+    }
+}
+
 // One number of the memory.
-fn put<W: Write>(output: &mut W, page: &mut [u8], at: usize, x: u16) -> io::Result<usize>
+fn put<W: Write>(output: &mut W, page: &mut [u8], at: usize, x: u64) -> io::Result<usize>
     requires { Page page.old at }
     ensures page { IfOk result (λ next. Page page.new next) }
     ensures text { IfOk result (λ next.
@@ -71,34 +94,18 @@ fn put<W: Write>(output: &mut W, page: &mut [u8], at: usize, x: u16) -> io::Resu
     ensures err { OnErr result (page.new ≡ page.old) }
 {
     let next = turn(output, page, at)?;
-    Ok(pen::put_item(page, next, b" ", x as u64))
+    Ok(pen::put_item(page, next, b" ", x))
 }
 
-pub fn bytes<W: Write>(output: &mut W, memory: &[u8]) -> io::Result<()>
-    ensures { OnOk result (Appends (W.contents output.old) (W.contents output.new) (memory_text memory.now)) }
+// The lent memory, which ends the line.
+pub fn memory<W: Write, T: Entry>(output: &mut W, entries: &[T]) -> io::Result<()>
+    ensures { OnOk result (Appends (W.contents output.old) (W.contents output.new) (memory_text (map T.value entries.now))) }
 {
     word(output, b" memory")?;
     let mut page = [0u8; PAGE];
     let mut at = 0;
-    let mut i = 0;
-    while i < memory.len() {
-        at = put(output, &mut page, at, byte_word(memory[i]))?;
-        i += 1;
-    }
-    out(output, &page, at)?;
-    word(output, b"\n")
-}
-
-pub fn entries<W: Write>(output: &mut W, memory: &[u16]) -> io::Result<()>
-    ensures { OnOk result (Appends (W.contents output.old) (W.contents output.new) (memory_text memory.now)) }
-{
-    word(output, b" memory")?;
-    let mut page = [0u8; PAGE];
-    let mut at = 0;
-    let mut i = 0;
-    while i < memory.len() {
-        at = put(output, &mut page, at, memory[i])?;
-        i += 1;
+    for x in entries {
+        at = put(output, &mut page, at, x.long())?;
     }
     out(output, &page, at)?;
     word(output, b"\n")
