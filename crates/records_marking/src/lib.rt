@@ -6,9 +6,8 @@ ghost use Rattle.std.specs.Io.KnownBytes.{Appends};
 ghost use Rattle.net.specs.Limits.{most_edges, most_operations};
 ghost use Rattle.records_marking.specs.Lines.{LookLine, RunLeaves, RunLine, StartLeaves, StartLine, StepLeaves, StepLine, WaitLine, graph_text, rows_text, times_text, wait_values_text};
 
-use casts::{byte_long, quad_long};
 use reader::graph::Graph;
-use records_print::{bytes, head, number, word};
+use records_print::{head, memory, number, word};
 use refusal::{Verdict, none};
 use std::io;
 use std::io::Write;
@@ -19,31 +18,27 @@ fn times<W: Write>(output: &mut W, xs: &[u32; Graph::OPERATIONS], n: usize) -> i
     requires { n ≤ most_operations }
     ensures { OnOk result (Appends (W.contents output.old) (W.contents output.new) (times_text xs.now n)) }
 {
-    let mut i = 0;
-    while i < n {
-        number(output, quad_long(xs[i]))?;
-        i += 1;
+    for x in &xs[..n] {
+        number(output, u64::from(*x))?;
     }
     Ok(())
 }
 
-fn rows<'a, W: Write>(
+fn rows<W: Write>(
     output: &mut W,
-    from: &'a [u8; Graph::EDGES],
-    to: &'a [u8; Graph::EDGES],
-    mark: &'a [u8; Graph::EDGES],
+    from: &[u8; Graph::EDGES],
+    to: &[u8; Graph::EDGES],
+    mark: &[u8; Graph::EDGES],
     n: usize,
 ) -> io::Result<()>
     requires { n ≤ most_edges }
     ensures { OnOk result (Appends (W.contents output.old) (W.contents output.new)
         (rows_text from.now to.now mark.now n)) }
 {
-    let mut e = 0;
-    while e < n {
-        number(output, byte_long(from[e]))?;
-        number(output, byte_long(to[e]))?;
-        number(output, byte_long(mark[e]))?;
-        e += 1;
+    for e in 0..n {
+        number(output, u64::from(from[e]))?;
+        number(output, u64::from(to[e]))?;
+        number(output, u64::from(mark[e]))?;
     }
     Ok(())
 }
@@ -80,7 +75,7 @@ pub fn start_line<W: Write>(output: &mut W, file: &[u8], marking: &mut [u8]) -> 
 {
     let reply = stepping::start(file, marking);
     head(output, b"start", start_refusal(reply))?;
-    bytes(output, marking)
+    memory(output, marking)
 }
 
 pub fn step_line<W: Write>(
@@ -94,7 +89,7 @@ pub fn step_line<W: Write>(
 {
     let reply = stepping::step(file, marking, transition);
     head(output, b"step", step_refusal(reply))?;
-    bytes(output, marking)
+    memory(output, marking)
 }
 
 pub fn run_line<W: Write>(
@@ -110,7 +105,7 @@ pub fn run_line<W: Write>(
     let end = reply.end;
     head(output, b"run", end_refusal(end))?;
     number(output, reply.fired as u64)?;
-    bytes(output, marking)
+    memory(output, marking)
 }
 
 // A wait, or the refusal and 0.
@@ -120,7 +115,7 @@ fn wait_values<W: Write>(output: &mut W, reply: Wait) -> io::Result<()>
     match reply {
         Wait::Waits(firings) => {
             head(output, b"wait", none())?;
-            number(output, firings as u64)
+            number(output, u64::from(firings))
         }
         Wait::Refused(refusal) => {
             head(output, b"wait", refusal)?;
@@ -139,5 +134,5 @@ pub fn wait_line<W: Write>(
 {
     let reply = waiting::wait(file, marking, transition);
     wait_values(output, reply)?;
-    bytes(output, marking)
+    memory(output, marking)
 }
