@@ -6,7 +6,7 @@ ghost use Rattle.records.specs.Left.{BoundsLeaves, Leaves, ReportLeaves};
 
 use bounds_graph::reply::Bounds;
 use records_marking::{look_line, run_line, start_line, step_line, wait_line};
-use records_print::{bytes, entries, head, number, word};
+use records_print::{head, memory, number, word};
 use refusal::none;
 use report_graph::reply::Report;
 use std::io;
@@ -20,9 +20,9 @@ fn bounds_values<W: Write>(output: &mut W, reply: Bounds) -> io::Result<()>
             head(output, b"bounds", none())?;
             number(output, found.numerator)?;
             number(output, found.denominator)?;
-            number(output, found.tbio as u64)?;
-            number(output, found.tt as u64)?;
-            number(output, found.tce as u64)?;
+            number(output, u64::from(found.tbio))?;
+            number(output, u64::from(found.tt))?;
+            number(output, u64::from(found.tce))?;
             number(output, found.length as u64)
         }
         Bounds::Refused(refusal) => {
@@ -38,7 +38,7 @@ fn bounds_line<W: Write>(output: &mut W, file: &[u8], list: &mut [u16]) -> io::R
 {
     let reply = bounds::bounds(file, list);
     bounds_values(output, reply)?;
-    entries(output, list)
+    memory(output, list)
 }
 
 // How long the report's buffer is.
@@ -47,12 +47,10 @@ fn room(asked: usize) -> usize
     ensures value { result ≡ room_of asked }
 {
     if asked == 0 {
-        return report::ROOM;
+        report::ROOM
+    } else {
+        asked.min(report::ROOM)
     }
-    if report::ROOM < asked {
-        return report::ROOM;
-    }
-    asked
 }
 
 fn report_values<W: Write>(output: &mut W, reply: Report) -> io::Result<()>
@@ -76,7 +74,7 @@ fn report_in<W: Write>(output: &mut W, file: &[u8], buffer: &mut [u8]) -> io::Re
 {
     let reply = report::report(file, buffer);
     report_values(output, reply)?;
-    bytes(output, buffer)
+    memory(output, buffer)
 }
 
 fn report_line<W: Write>(output: &mut W, file: &[u8], asked: usize) -> io::Result<()>
@@ -91,10 +89,7 @@ fn report_line<W: Write>(output: &mut W, file: &[u8], asked: usize) -> io::Resul
 fn first(list: &[u16]) -> u16
     ensures { result ≡ first_of list.now }
 {
-    if list.len() == 0 {
-        return 65535;
-    }
-    list[0]
+    list.first().copied().unwrap_or(65535)
 }
 
 // The call that the letter names; false where it names none.

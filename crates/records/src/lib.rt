@@ -28,10 +28,8 @@ fn entries(s: &[u8]) -> [u16; ENTRIES]
     ensures { take (length s.now / 2) result ≡ words s.now }
 {
     let mut out = [0u16; ENTRIES];
-    let mut k = 0;
-    while k < s.len() / 2 {
+    for k in 0..s.len() / 2 {
         out[k] = little::word(s, 2 * k);
-        k += 1;
     }
     out
 }
@@ -41,13 +39,11 @@ fn count(s: &[u8], at: usize) -> usize
     ensures bound { result < 65536 }
     ensures value { result ≡ count_at s.now at }
 {
-    if s.len() < 2 {
-        return 0;
+    if at < s.len() && at + 1 < s.len() {
+        usize::from(little::word(s, at))
+    } else {
+        0
     }
-    if s.len() - 2 < at {
-        return 0;
-    }
-    little::word(s, at) as usize
 }
 
 // A record that is cut short, or whose letter names no call, is the last.

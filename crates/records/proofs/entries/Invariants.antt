@@ -1,10 +1,7 @@
 -- The first k entries are read.
-use Rattle.std.proofs.Common.{◌≡◌, ◌-◌, ◌/◌, ◌≤◌, length, take}
+use Rattle.std.proofs.Common.{◌≡◌, length, take}
 use Rattle.records.specs.Parts.{words}
 use Rattle.records.proofs.entries.Given as goal
 
 abbrev pub invariant-loop-k : goal.invariant-loop-k
-invariant-loop-k l = (length l.out ≡ 30000) × (l.k ≤ length l.s / 2) × (take l.k l.out ≡ take l.k (words l.s))
-
-abbrev pub decreases-loop-k : goal.decreases-loop-k
-decreases-loop-k l = length l.s / 2 - l.k
+invariant-loop-k l = (length l.out ≡ 30000) × (take l.k l.out ≡ take l.k (words l.s))
