@@ -11,7 +11,7 @@ pub fn wait_refusal(reply: Wait) -> Refusal
     ensures { result ≡ wait_refusal reply }
 {
     match reply {
-        Wait::Waits(firings) => none(),
+        Wait::Waits(_) => none(),
         Wait::Refused(refusal) => refusal,
     }
 }
@@ -21,7 +21,7 @@ pub fn wait_count(reply: Wait) -> u32
 {
     match reply {
         Wait::Waits(firings) => firings,
-        Wait::Refused(refusal) => 0,
+        Wait::Refused(_) => 0,
     }
 }
 
@@ -29,7 +29,7 @@ pub fn bounds_refusal(reply: Bounds) -> Refusal
     ensures { result ≡ bounds_refusal reply }
 {
     match reply {
-        Bounds::Bounded(found) => none(),
+        Bounds::Bounded(_) => none(),
         Bounds::Refused(refusal) => refusal,
     }
 }
@@ -39,7 +39,7 @@ pub fn bounds_count(reply: Bounds) -> usize
 {
     match reply {
         Bounds::Bounded(found) => found.length,
-        Bounds::Refused(refusal) => 0,
+        Bounds::Refused(_) => 0,
     }
 }
 
@@ -50,9 +50,9 @@ pub fn bounds_values(found: Measures) -> [u64; 5]
     [
         found.numerator,
         found.denominator,
-        found.tbio as u64,
-        found.tt as u64,
-        found.tce as u64,
+        u64::from(found.tbio),
+        u64::from(found.tt),
+        u64::from(found.tce),
     ]
 }
 
@@ -60,7 +60,7 @@ pub fn report_refusal(reply: Report) -> Refusal
     ensures { result ≡ report_refusal reply }
 {
     match reply {
-        Report::Written { length } => none(),
-        Report::Refused { refusal, length } => refusal,
+        Report::Written { .. } => none(),
+        Report::Refused { refusal, .. } => refusal,
     }
 }

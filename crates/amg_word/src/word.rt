@@ -20,14 +20,14 @@ const MOST: u64 = 16777215;
 fn held(count: u64) -> u64
     ensures { result ≡ min count most_count }
 {
-    if count < MOST { count } else { MOST }
+    count.min(MOST)
 }
 
 // The number in bits 0 to 7, the place in bits 8 to 23, the count in bits 40 to 63.
 pub fn pack(refusal: Refusal, count: u64) -> u64
     ensures { result ≡ packed refusal count }
 {
-    (refusal.number as u64) + 256 * (refusal.place as u64) + 1099511627776 * held(count)
+    u64::from(refusal.number) + 256 * u64::from(refusal.place) + 1099511627776 * held(count)
 }
 
 pub fn start_word(s: Start) -> u64
@@ -52,8 +52,7 @@ pub fn run_word(e: Ran) -> u64
 pub fn wait_word(w: Wait) -> u64
     ensures { result ≡ packed (wait_refusal w) (wait_count w) }
 {
-    let count = numbers::wait_count(w);
-    pack(numbers::wait_refusal(w), count as u64)
+    pack(numbers::wait_refusal(w), u64::from(numbers::wait_count(w)))
 }
 
 pub fn bounds_word(b: Bounds) -> u64
