@@ -31,45 +31,37 @@ pub fn amg_look(
     }
     let g = looked.graph;
     *counts = [g.operations as u32, g.edges as u32];
-    let t = g.times;
-    *times = t;
-    let f = g.from;
-    *from = f;
-    let o = g.to;
-    *to = o;
-    let m = g.mark;
-    *mark = m;
+    times.copy_from_slice(&g.times);
+    from.copy_from_slice(&g.from);
+    to.copy_from_slice(&g.to);
+    mark.copy_from_slice(&g.mark);
     word
 }
 
 pub fn amg_start(file: &[u8], marking: &mut [u8]) -> u64
     ensures { StartCall file.now marking.old result marking.new }
 {
-    let said = stepping::start(file, marking);
-    start_word(said)
+    start_word(stepping::start(file, marking))
 }
 
 pub fn amg_step(file: &[u8], marking: &mut [u8], transition: u16) -> u64
     ensures { StepCall file.now marking.old transition result marking.new }
 {
-    let said = stepping::step(file, marking, transition);
-    step_word(said)
+    step_word(stepping::step(file, marking, transition))
 }
 
 // The word's count is the firings.
 pub fn amg_run(file: &[u8], marking: &mut [u8], list: &[u16]) -> u64
     ensures { RunCall file.now marking.old list.now result marking.new }
 {
-    let said = stepping::run(file, marking, list);
-    run_word(said)
+    run_word(stepping::run(file, marking, list))
 }
 
 // The word's count is the wait.
 pub fn amg_wait(file: &[u8], marking: &[u8], transition: u16) -> u64
     ensures { WaitCall file.now marking.now transition result }
 {
-    let said = waiting::wait(file, marking, transition);
-    wait_word(said)
+    wait_word(waiting::wait(file, marking, transition))
 }
 
 // The word's count is the circuit's length; values are numerator, denominator, TBIO, TT and TCE.
@@ -89,6 +81,5 @@ pub fn amg_bounds(file: &[u8], circuit: &mut [u16], values: &mut [u64; 5]) -> u6
 pub fn amg_report(file: &[u8], buffer: &mut [u8]) -> u64
     ensures { ReportCall file.now buffer.old result buffer.new }
 {
-    let said = report::report(file, buffer);
-    report_word(said)
+    report_word(report::report(file, buffer))
 }

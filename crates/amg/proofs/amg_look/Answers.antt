@@ -36,4 +36,5 @@ overflow_cast-counts-2 c =
 pub returns : goal.returns
 returns c =
     let l = c.look-looked in
-    record { reply = l.result; allowed = (l.ensures, written _ _ _ c.in_default.is); told = c.pack-word.ensures ∙ ap (λ (x : Refusal). packed x 0) c.refusal_of.ensures }
+    let w = written l.result.verdict l.result.graph (tables c.args.counts.now c.args.times.now c.args.from.now c.args.to.now c.args.mark.now) c.in_default.is in
+    record { reply = l.result; allowed = (l.ensures, cc); told = c.pack-word.ensures ∙ ap (λ (x : Refusal). packed x 0) c.refusal_of.ensures }
