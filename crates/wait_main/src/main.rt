@@ -20,11 +20,6 @@ use waiting_graph::reply::Wait;
 // The input goes no further.
 const INPUT: usize = 65536;
 
-fn number<W: Write>(out: &mut W, label: &[u8], x: u64) -> io::Result<()> {
-    out.write_all(label)?;
-    write!(out, "{x}")
-}
-
 // One transition: its wait, and whether it is kept just so long.
 fn line<'a, W: Write>(
     out: &mut W,
@@ -43,8 +38,7 @@ fn line<'a, W: Write>(
     let mut c = *m;
     let reply = wait(file, &c[..places], t);
     if let Wait::Waits(w) = reply {
-        number(out, b"wait ", t as u64)?;
-        number(out, b" ", w as u64)?;
+        write!(out, "wait {t} {w}")?;
         if keeps(n, e, from, to, &mut c[..places], t, w) {
             return out.write_all(b" kept\n");
         }
@@ -65,11 +59,8 @@ fn lines<'a, W: Write>(
     requires wired { Wired n e from.now to.now }
     requires m_len { length m.now ≡ most_places }
 {
-    let end = (3 * n + 2) as u16;
-    let mut t = 0;
-    while t < end {
+    for t in 0..(3 * n + 2) as u16 {
         line(out, file, n, e, from, to, m, t)?;
-        t += 1;
     }
     Ok(())
 }
@@ -91,8 +82,7 @@ fn after<'a, W: Write>(
     let places = 3 * n + 2 * e;
     let mut c = *m;
     advance(n, e, from, to, &mut c[..places], times);
-    number(out, b"after firings ", times as u64)?;
-    out.write_all(b"\n")?;
+    writeln!(out, "after firings {times}")?;
     lines(out, file, n, e, from, to, &c)
 }
 
@@ -121,25 +111,21 @@ fn show_file<W: Write>(out: &mut W, file: &[u8]) -> io::Result<()> {
     let verdict = looked.verdict;
     if let Verdict::Accepted = verdict {
         let g = looked.graph;
-        number(out, b"ops ", g.operations as u64)?;
-        number(out, b" edges ", g.edges as u64)?;
-        out.write_all(b"\n")?;
+        writeln!(out, "ops {} edges {}", g.operations, g.edges)?;
         return show(out, file, g.operations, g.edges, &g.from, &g.to, &g.mark);
     }
     out.write_all(b"refused\n")
 }
 
-fn each<W: Write>(out: &mut W, s: &[u8]) -> io::Result<()> {
-    let mut at = 0;
-    while 2 <= s.len() - at {
-        let start = at + 2;
-        let length = little::word(s, at) as usize;
-        if s.len() - start < length {
+// Every file, up to one that is cut short.
+fn each<W: Write>(out: &mut W, mut rest: &[u8]) -> io::Result<()> {
+    while let Some((length, behind)) = rest.split_first_chunk::<2>() {
+        let length = usize::from(u16::from_le_bytes(*length));
+        let Some((file, next)) = behind.split_at_checked(length) else {
             return Ok(());
-        }
-        let end = start + length;
-        show_file(out, &s[start..end])?;
-        at = end;
+        };
+        show_file(out, file)?;
+        rest = next;
     }
     Ok(())
 }
