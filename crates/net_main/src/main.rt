@@ -1,11 +1,10 @@
 // Prints the dead transition, if there is one, and the distances from every transition, for document 01's graphs P1 to P6 at the start.
 #![tactic(auto)]
 
-ghost use Rattle.std.specs.Prelude.{◌+◌, ◌*◌, ◌<◌, ◌≤◌};
+ghost use Rattle.std.specs.Prelude.{◌+◌, ◌*◌, ◌<◌, ◌≤◌, length};
 ghost use Rattle.net.specs.helpers.Lent.{Lent};
 ghost use Rattle.net_main.specs.Columns.{Column, Held};
 
-use casts::word_long;
 use dead::first_dead;
 use distances::distances;
 use net::{EDGES, PLACES, TRANSITIONS};
@@ -14,30 +13,14 @@ use refusal::Found;
 use std::io;
 use std::io::Write;
 
-// x, held between least and most.
-fn held(x: u8, least: u8, most: u8) -> u8
-    requires { least ≤ most }
-    ensures { Held least most result }
-{
-    if x < least {
-        return least;
-    }
-    if most < x {
-        return most;
-    }
-    x
-}
-
 // One column of an edge table with three numbers an edge, each held between least and most.
-fn column(edges: &[u8; 15], e: usize, c: usize, least: u8, most: u8) -> [u8; EDGES]
-    requires { (e ≤ 5) × (c < 3) × (least ≤ most) }
+fn column(edges: &[[u8; 3]], c: usize, least: u8, most: u8) -> [u8; EDGES]
+    requires { (length edges.now ≤ 5) × (c < 3) × (least ≤ most) }
     ensures { Column least most result }
 {
     let mut out = [least; EDGES];
-    let mut k = 0;
-    while k < e {
-        out[k] = held(edges[3 * k + c], least, most);
-        k += 1;
+    for (k, edge) in edges.iter().enumerate() {
+        out[k] = edge[c].clamp(least, most);
     }
     out
 }
@@ -46,10 +29,8 @@ fn column(edges: &[u8; 15], e: usize, c: usize, least: u8, most: u8) -> [u8; EDG
 fn line<W: Write>(out: &mut W, d: &[u16; TRANSITIONS], k: usize) -> io::Result<()>
     requires { k ≤ 122 }
 {
-    let mut u = 0;
-    while u < k {
-        write!(out, " {}", word_long(d[u]))?;
-        u += 1;
+    for x in &d[..k] {
+        write!(out, " {x}")?;
     }
     out.write_all(b"\n")
 }
@@ -101,10 +82,8 @@ fn show_all<W: Write>(
 ) -> io::Result<()>
     requires { Lent n e from.now to.now marking.now }
 {
-    let mut t = 0;
-    while t < 3 * n + 2 {
+    for t in 0..3 * n + 2 {
         show_from(out, n, e, from, to, marking, t)?;
-        t += 1;
     }
     Ok(())
 }
@@ -124,30 +103,31 @@ fn show_rows<W: Write>(
     show_all(out, n, e, from, to, marking)
 }
 
-// The graph's name.
-fn show_name<W: Write>(out: &mut W, number: u64) -> io::Result<()> {
-    writeln!(out, "P{number}")
-}
-
 // One graph at the start: its number, its operations, and its edges as from, to and mark.
-fn show<W: Write>(out: &mut W, number: u64, n: u8, e: usize, edges: &[u8; 15]) -> io::Result<()>
-    requires { (1 ≤ n) × (n ≤ 40) × (e ≤ 5) }
+fn show<W: Write>(out: &mut W, number: u64, n: usize, edges: &[[u8; 3]]) -> io::Result<()>
+    requires { (1 ≤ n) × (n ≤ 40) × (length edges.now ≤ 5) }
 {
-    show_name(out, number)?;
-    let from = column(edges, e, 0, 0, n);
-    let to = column(edges, e, 1, 1, n + 1);
-    let mark = column(edges, e, 2, 0, 1);
+    writeln!(out, "P{number}")?;
+    let e = edges.len();
+    let from = column(edges, 0, 0, n as u8);
+    let to = column(edges, 1, 1, n as u8 + 1);
+    let mark = column(edges, 2, 0, 1);
     let mut marking = [0u8; PLACES];
-    start_marking(n as usize, e, &mark, &mut marking);
-    show_rows(out, n as usize, e, &from, &to, &marking)
+    start_marking(n, e, &mark, &mut marking);
+    show_rows(out, n, e, &from, &to, &marking)
 }
 
 fn main(rt: HostRuntime) -> io::Result<()> {
     let out = &mut rt.stdout();
-    show(out, 1, 1, 2, &[0, 1, 0, 1, 2, 0, 0, 0, 0, 0, 0, 0, 0, 0, 0])?;
-    show(out, 2, 2, 4, &[0, 1, 0, 1, 2, 0, 2, 1, 1, 2, 3, 0, 0, 0, 0])?;
-    show(out, 3, 3, 5, &[0, 1, 0, 1, 2, 0, 2, 3, 1, 3, 1, 1, 3, 4, 0])?;
-    show(out, 4, 2, 4, &[0, 1, 0, 1, 2, 0, 1, 2, 1, 2, 3, 0, 0, 0, 0])?;
-    show(out, 5, 1, 3, &[0, 1, 0, 1, 1, 1, 1, 2, 0, 0, 0, 0, 0, 0, 0])?;
-    show(out, 6, 1, 3, &[0, 1, 0, 1, 1, 0, 1, 2, 0, 0, 0, 0, 0, 0, 0])
+    show(out, 1, 1, &[[0, 1, 0], [1, 2, 0]])?;
+    show(out, 2, 2, &[[0, 1, 0], [1, 2, 0], [2, 1, 1], [2, 3, 0]])?;
+    show(
+        out,
+        3,
+        3,
+        &[[0, 1, 0], [1, 2, 0], [2, 3, 1], [3, 1, 1], [3, 4, 0]],
+    )?;
+    show(out, 4, 2, &[[0, 1, 0], [1, 2, 0], [1, 2, 1], [2, 3, 0]])?;
+    show(out, 5, 1, &[[0, 1, 0], [1, 1, 1], [1, 2, 0]])?;
+    show(out, 6, 1, &[[0, 1, 0], [1, 1, 0], [1, 2, 0]])
 }
