@@ -2,6 +2,7 @@
 use Rattle.std.specs.Prelude.{ℕ, List, ◌++◌, length, get_or}
 use Rattle.std.specs.declared.option.Option.{Option}
 use Rattle.std.specs.Io.KnownBytes.{Appends}
+use Rattle.refusal.specs.Numbers.{number_told, place_told}
 use Rattle.refusal.specs.declared.Refusal.{Refusal}
 use Rattle.little.specs.Text.{bytes}
 use Rattle.pen_put.specs.Lines.{item, series}
@@ -11,8 +12,8 @@ abbrev pub number_text : ℕ → List ℕ
 number_text x = item (bytes " ") x
 
 -- a call's name, and its refusal's number and place
-abbrev pub head_text : List ℕ → Refusal → List ℕ
-head_text name r = name ++ (number_text r.number ++ number_text r.place)
+abbrev pub head_text : List ℕ → Option Refusal → List ℕ
+head_text name r = name ++ (number_text (number_told r) ++ number_text (place_told r))
 
 -- entry i of the memory
 abbrev pub entry_text : List ℕ → ℕ → List ℕ

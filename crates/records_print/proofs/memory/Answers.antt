@@ -18,4 +18,4 @@ loop-x-preserved g c =
     let entry = get_or-map value c.args.entries.now i x 0 c.loop-x-test.true in
     let is = c.long.ensures ∙ ap value c.x-item.is ∙ sym entry in
     let whole = ap (λ n. row ++ number_text n) is ∙ series_on (bytes " memory") (entry_text numbers) i in
-    (c.in_ok-at.ensures.page, subst (Gathered _ _ _ _) whole (gathered_on _ c.loop-x.invariant.1 c.in_ok-at.ensures.text))
+    subst (Gathered _ _ _ _) whole (gathered_on _ c.loop-x.invariant c.in_ok-put.ensures.text)

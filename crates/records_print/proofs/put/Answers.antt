@@ -1,19 +1,18 @@
--- A number of 16 bits has room on a page that is roomy, and stands there behind what was gathered.
+-- A number has room on a page that is roomy, and stands there behind what was gathered.
 use Rattle.std.proofs.Common.{arith}
 use Rattle.pen_put.proofs.PutLaws.{put_length, put_within}
 use Rattle.records_print.proofs.Gathering.{gathered_put, number_room}
 use Rattle.records_print.proofs.put.Goals as goal
 
-pub put_item-requires : goal.put_item-requires
-put_item-requires g c = number_room c.args.page.now c.in_ok-next.next c.args.x (omega (arith, c.requires.long, c.in_ok-next.ensures.room.room)) (omega (arith, c.ranges.x.fits))
+pub put_item-page-requires : goal.put_item-page-requires
+put_item-page-requires g c = number_room c.turn.new.page.bytes c.turn.new.page.fill c.args.x (omega (arith, c.in_ok-turn.ensures.room.room)) c.ranges.x.fits
 
-pub returns : goal.returns
-returns g c =
-    let room = number_room c.args.page.now c.in_ok-next.next c.args.x (omega (arith, c.requires.long, c.in_ok-next.ensures.room.room)) (omega (arith, c.ranges.x.fits)) in
-    let length = put_length c.put_item.ensures in
-    let within = put_within c.put_item.ensures room in
-    record {
-      page = record { long = omega (arith, length, c.requires.long); within = omega (arith, length, within, c.requires.long) };
-      text = gathered_put c.in_ok-next.ensures.text room c.put_item.ensures;
-      err = tt;
-    }
+pub invariant_of-page : goal.invariant_of-page
+invariant_of-page g c =
+    let room = number_room c.turn.new.page.bytes c.turn.new.page.fill c.args.x (omega (arith, c.in_ok-turn.ensures.room.room)) c.ranges.x.fits in
+    record { within = omega (arith, put_within c.put_item-page.ensures room, put_length c.put_item-page.ensures) }
+
+pub returns-clause-text : goal.returns-clause-text
+returns-clause-text g c =
+    let room = number_room c.turn.new.page.bytes c.turn.new.page.fill c.args.x (omega (arith, c.in_ok-turn.ensures.room.room)) c.ranges.x.fits in
+    gathered_put c.in_ok-turn.ensures.text room c.put_item-page.ensures
