@@ -1,5 +1,5 @@
 -- Laws of text that is gathered on a page: what is put stands there, and one piece goes on where the last one ended.
-use Rattle.std.proofs.Common.{◌≡◌, ℕ, ◌+◌, ◌<◌, ◌≤◌, List, [], ◌∷◌, ◌++◌, length, take, drop, ap, sym, ◌∙◌, arith, length-take-le, append_assoc}
+use Rattle.std.proofs.Common.{◌≡◌, ℕ, ◌+◌, ◌<◌, ◌≤◌, List, [], ◌∷◌, ◌++◌, length, replicate, take, drop, ap, sym, ◌∙◌, arith, length-take-le, append_assoc}
 use Rattle.std.proofs.lemmas.List.Edits.{sets-eq}
 use Rattle.std.proofs.KnownBytes.{Appends-trans}
 use Rattle.std.specs.declared.option.Option.{Option}
@@ -8,12 +8,17 @@ use lib.ListN.{length-append}
 use lib.Seq.{take_at}
 use Rattle.pen_put.specs.Lines.{HasRoom, Put, item, series}
 use Rattle.pen_put.proofs.DigitLaws.{digits_short}
+use Rattle.pen_put.proofs.PutLaws.{put_within}
 use Rattle.records_print.specs.Page.{Gathered}
 
 -- a number has room where a page is roomy, and in 32 bytes
 pub number_room : (page : List ℕ) (at x : ℕ) → at + 32 ≤ length page → x < 18446744073709551616 → HasRoom page at (item (32 ∷ []) x)
 unfolding item
 number_room page at x roomy small = record { room = omega (arith, digits_short 19 x (omega (arith, small)), roomy) }
+
+-- and in a buffer of 32 bytes it ends within them
+pub number_ends : {x next : ℕ} {after : List ℕ} → x < 18446744073709551616 → Put (replicate 32 0) 0 (item (32 ∷ []) x) after next → next ≤ length after
+number_ends {x} small p = put_within p (number_room (replicate 32 0) 0 x (omega arith) small)
 
 -- what is put stands behind what was there
 pub put_more : (before text after : List ℕ) (at next : ℕ) → HasRoom before at text → Put before at text after next → take next after ≡ take at before ++ text
@@ -22,10 +27,6 @@ put_more before text after at next f p =
     let stands = p.stands ∙ sets-eq text before at f.room in
     let long : length (take at before ++ text) ≡ next = omega (arith, length-append (take at before) text, length-take-le at before (omega (arith, f.room)), p.place) in
     ap (take next) stands ∙ take_at (take at before ++ text) rest next long
-
--- at the beginning, nothing was there
-pub put_read : (before text after : List ℕ) (next : ℕ) → HasRoom before 0 text → Put before 0 text after next → take next after ≡ text
-put_read before text after next f p = put_more before text after 0 next f p
 
 -- one text more is put on the page
 pub gathered_put : {a b : Option (List ℕ)} {page page' text more : List ℕ} {at next : ℕ} → Gathered a b page at text → HasRoom page at more → Put page at more page' next → Gathered a b page' next (text ++ more)
