@@ -1,9 +1,0 @@
--- `link_ops`: safe, and it ends.
-use Prim.Native.Nat.{◌-◌, ◌≤◌}
-use Rattle.dead_lists.proofs.link_ops.Given as goal
-
-abbrev pub invariant-loop-i : goal.invariant-loop-i
-invariant-loop-i l = l.i ≤ l.n
-
-abbrev pub decreases-loop-i : goal.decreases-loop-i
-decreases-loop-i l = l.n - l.i
