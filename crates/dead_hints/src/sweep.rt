@@ -10,15 +10,8 @@ use net::{EDGES, TRANSITIONS};
 fn raise(s: usize, t: usize, tokens: u8, level: &mut [u8; TRANSITIONS])
     requires { (s < most_transitions) × (t < most_transitions) }
 {
-    if tokens != 0 {
-        return;
-    }
-    let low = level[s];
-    if low < level[t] {
-        return;
-    }
-    if low < 255 {
-        level[t] = low + 1;
+    if tokens == 0 && level[t] <= level[s] && level[s] < u8::MAX {
+        level[t] = level[s] + 1;
     }
 }
 
@@ -57,9 +50,7 @@ pub fn sweep(
 )
     requires { Lent n e from.now to.now marking.now }
 {
-    let mut k = 0;
-    while k < e {
+    for k in 0..e {
         raise_edge(n, e, k, from, to, marking, level);
-        k += 1;
     }
 }

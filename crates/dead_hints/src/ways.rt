@@ -2,7 +2,6 @@
 ghost use Rattle.std.specs.Prelude.{◌<◌, ◌≤◌};
 ghost use Rattle.net.specs.Limits.{most_transitions};
 
-use casts::{byte_index, word_index};
 use dead_lists::{follow, goal_of};
 use net::{PLACES, TRANSITIONS};
 
@@ -13,9 +12,10 @@ fn push(t: usize, queue: &mut [u8; TRANSITIONS], end: usize) -> usize
 {
     if end < TRANSITIONS {
         queue[end] = t as u8;
-        return end + 1;
+        end + 1
+    } else {
+        end
     }
-    end
 }
 
 // Entry q leads to u: the first to do so is noted, and u joins the queue.
@@ -29,10 +29,7 @@ fn note(
     requires { (q < 65536) × (end ≤ most_transitions) }
     ensures { result ≤ most_transitions }
 {
-    if u >= TRANSITIONS {
-        return end;
-    }
-    if via[u] != 0 {
+    if u >= TRANSITIONS || via[u] != 0 {
         return end;
     }
     via[u] = q as u16;
@@ -52,7 +49,7 @@ fn spread(
     ensures { result ≤ most_transitions }
 {
     let mut end = start;
-    let mut q = word_index(first);
+    let mut q = usize::from(first);
     while q > 0 {
         end = note(q, goal_of(goal, q), via, queue, end);
         q = follow(next, q);
@@ -94,7 +91,7 @@ fn reach(
     let mut done = 0;
     while done < end {
         end = spread_from(
-            byte_index(queue[done]),
+            usize::from(queue[done]),
             head,
             next,
             goal,
