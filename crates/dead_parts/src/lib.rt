@@ -4,7 +4,6 @@
 ghost use Rattle.std.specs.Prelude.{◌<◌, ◌≤◌};
 ghost use Rattle.net.specs.Limits.{most_operations, most_transitions};
 
-use casts::{byte_index, word_index};
 use dead_lists::{follow, goal_of};
 use net::{PLACES, TRANSITIONS};
 
@@ -95,7 +94,7 @@ fn meet(
 fn settle(h: usize, x: u8, pile: &[u8; TRANSITIONS], level: &mut [u8; TRANSITIONS]) -> usize
     requires { h < most_transitions }
 {
-    let u = byte_index(pile[h]);
+    let u = usize::from(pile[h]);
     if u >= TRANSITIONS {
         return u;
     }
@@ -113,9 +112,7 @@ fn unpile(
 ) -> usize
     requires { height ≤ most_transitions }
 {
-    let mut h = height;
-    while h > 0 {
-        h -= 1;
+    for h in (0..height).rev() {
         if settle(h, x, pile, level) == t {
             return h;
         }
@@ -149,7 +146,7 @@ fn hand_back(t: usize, d: usize, level: &mut [u8; TRANSITIONS], path: &[u8; TRAN
     if d < 2 {
         return;
     }
-    let s = byte_index(path[d - 2]);
+    let s = usize::from(path[d - 2]);
     if s >= TRANSITIONS {
         return;
     }
@@ -198,11 +195,11 @@ fn advance(
     if d > TRANSITIONS {
         return s;
     }
-    let t = byte_index(path[d - 1]);
+    let t = usize::from(path[d - 1]);
     if t >= TRANSITIONS {
         return s;
     }
-    let q = word_index(head[t]);
+    let q = usize::from(head[t]);
     if q == 0 {
         return leave(s, t, d, number, level, path, pile);
     }
@@ -223,14 +220,12 @@ fn search(
     pile: &mut [u8; TRANSITIONS],
 ) -> Stage {
     let mut s = start;
-    let mut moves = 0;
-    while moves < MOVES {
+    for _ in 0..MOVES {
         let d = s.depth;
         if d == 0 {
             return s;
         }
         s = advance(s, d, head, next, goal, number, level, path, pile);
-        moves += 1;
     }
     s
 }
@@ -275,8 +270,7 @@ fn search_all(
         last: 0,
         level: TOP,
     };
-    let mut t = 0;
-    while t < 3 * n + 2 {
+    for t in 0..3 * n + 2 {
         s = begin(
             s,
             t,
@@ -288,7 +282,6 @@ fn search_all(
             &mut path,
             &mut pile,
         );
-        t += 1;
     }
 }
 
