@@ -5,101 +5,59 @@ ghost use Rattle.net.specs.Limits.{most_transitions};
 use dead_lists::{follow, goal_of};
 use net::{PLACES, TRANSITIONS};
 
-// t joins the queue. The answer is its new length.
-fn push(t: usize, queue: &mut [u8; TRANSITIONS], end: usize) -> usize
-    requires { (t < most_transitions) × (end ≤ most_transitions) }
-    ensures { result ≤ most_transitions }
-{
-    if end < TRANSITIONS {
-        queue[end] = t as u8;
-        end + 1
-    } else {
-        end
-    }
-}
-
-// Entry q leads to u: the first to do so is noted, and u joins the queue.
-fn note(
-    q: usize,
-    u: usize,
-    via: &mut [u16; TRANSITIONS],
-    queue: &mut [u8; TRANSITIONS],
+// The search so far: the entry by which each transition was first reached, and the transitions reached, in that order.
+#[derive(Drop)]
+struct Search<'a> {
+    head: &'a [u16; TRANSITIONS],
+    next: &'a [u16; PLACES],
+    goal: &'a [u8; PLACES],
+    via: [u16; TRANSITIONS],
+    queue: [u8; TRANSITIONS],
     end: usize,
-) -> usize
-    requires { (q < 65536) × (end ≤ most_transitions) }
-    ensures { result ≤ most_transitions }
-{
-    if u >= TRANSITIONS || via[u] != 0 {
-        return end;
-    }
-    via[u] = q as u16;
-    push(u, queue, end)
+    ghost within: { end ≤ most_transitions },
 }
 
-// The places of one list.
-fn spread(
-    first: u16,
-    next: &[u16; PLACES],
-    goal: &[u8; PLACES],
-    via: &mut [u16; TRANSITIONS],
-    queue: &mut [u8; TRANSITIONS],
-    start: usize,
-) -> usize
-    requires { start ≤ most_transitions }
-    ensures { result ≤ most_transitions }
-{
-    let mut end = start;
-    let mut q = usize::from(first);
-    while q > 0 {
-        end = note(q, goal_of(goal, q), via, queue, end);
-        q = follow(next, q);
+impl Search<'_> {
+    // t joins the queue.
+    fn push(&mut self, t: usize)
+        requires { t < most_transitions }
+    {
+        let end = self.end;
+        if end < TRANSITIONS {
+            self.queue[end] = t as u8;
+            self.end = end + 1;
+        }
     }
-    end
-}
 
-// The places from t.
-fn spread_from(
-    t: usize,
-    head: &[u16; TRANSITIONS],
-    next: &[u16; PLACES],
-    goal: &[u8; PLACES],
-    via: &mut [u16; TRANSITIONS],
-    queue: &mut [u8; TRANSITIONS],
-    end: usize,
-) -> usize
-    requires { end ≤ most_transitions }
-    ensures { result ≤ most_transitions }
-{
-    if t >= TRANSITIONS {
-        return end;
+    // Entry q leads to u: the first to do so is noted, and u joins the queue.
+    fn note(&mut self, q: usize, u: usize)
+        requires { q < 65536 }
+    {
+        if u < TRANSITIONS && self.via[u] == 0 {
+            self.via[u] = q as u16;
+            self.push(u);
+        }
     }
-    spread(head[t], next, goal, via, queue, end)
-}
 
-// The places from t, then from each transition that joins the queue.
-fn reach(
-    t: usize,
-    head: &[u16; TRANSITIONS],
-    next: &[u16; PLACES],
-    goal: &[u8; PLACES],
-    via: &mut [u16; TRANSITIONS],
-)
-    requires { t < most_transitions }
-{
-    let mut queue = [0; TRANSITIONS];
-    let mut end = push(t, &mut queue, 0);
-    let mut done = 0;
-    while done < end {
-        end = spread_from(
-            usize::from(queue[done]),
-            head,
-            next,
-            goal,
-            via,
-            &mut queue,
-            end,
-        );
-        done += 1;
+    // The places from t.
+    fn spread(&mut self, t: usize) {
+        if t >= TRANSITIONS {
+            return;
+        }
+        let mut q = usize::from(self.head[t]);
+        while q > 0 {
+            self.note(q, goal_of(self.goal, q));
+            q = follow(self.next, q);
+        }
+    }
+
+    // The places from each transition of the queue, those that join it on the way among them.
+    fn reach(&mut self) {
+        let mut done = 0;
+        while done < self.end {
+            self.spread(usize::from(self.queue[done]));
+            done += 1;
+        }
     }
 }
 
@@ -112,7 +70,15 @@ pub fn ways(
 ) -> [u16; TRANSITIONS]
     requires { t < most_transitions }
 {
-    let mut via = [0; TRANSITIONS];
-    reach(t, head, next, goal, &mut via);
-    via
+    let mut search = Search {
+        head,
+        next,
+        goal,
+        via: [0; TRANSITIONS],
+        queue: [0; TRANSITIONS],
+        end: 0,
+    };
+    search.push(t);
+    search.reach();
+    search.via
 }
