@@ -2,16 +2,14 @@
 ghost use Rattle.std.specs.Prelude.{◌<◌, ◌≤◌};
 ghost use Rattle.net.specs.Limits.{most_transitions};
 
-use dead_lists::{follow, goal_of};
-use net::{PLACES, TRANSITIONS};
+use dead_lists::Lists;
+use net::TRANSITIONS;
 
-// The search so far: the entry by which each transition was first reached, and the transitions reached, in that order.
+// The search so far: the place by which each transition was first reached, and the transitions reached, in that order.
 #[derive(Drop)]
 struct Search<'a> {
-    head: &'a [u16; TRANSITIONS],
-    next: &'a [u16; PLACES],
-    goal: &'a [u8; PLACES],
-    via: [u16; TRANSITIONS],
+    lists: &'a Lists,
+    via: [Option<u16>; TRANSITIONS],
     queue: [u8; TRANSITIONS],
     end: usize,
     ghost within: { end ≤ most_transitions },
@@ -29,25 +27,24 @@ impl Search<'_> {
         }
     }
 
-    // Entry q leads to u: the first to do so is noted, and u joins the queue.
-    fn note(&mut self, q: usize, u: usize)
-        requires { q < 65536 }
+    // Place p leads to t: the first to do so is noted, and t joins the queue.
+    fn note(&mut self, p: u16, t: usize)
+        requires { t < most_transitions }
     {
-        if u < TRANSITIONS && self.via[u] == 0 {
-            self.via[u] = q as u16;
-            self.push(u);
+        if self.via[t].is_none() {
+            self.via[t] = Some(p);
+            self.push(t);
         }
     }
 
     // The places from t.
     fn spread(&mut self, t: usize) {
-        if t >= TRANSITIONS {
-            return;
-        }
-        let mut q = usize::from(self.head[t]);
-        while q > 0 {
-            self.note(q, goal_of(self.goal, q));
-            q = follow(self.next, q);
+        let mut next = self.lists.first(t);
+        while let Some(p) = next {
+            if let Some(u) = self.lists.goal(p) {
+                self.note(p, u);
+            }
+            next = self.lists.after(p);
         }
     }
 
@@ -61,20 +58,13 @@ impl Search<'_> {
     }
 }
 
-// The entry of the empty place by which each transition is first reached from t, t itself too: 0 where it is not. The lists are those of the empty places.
-pub fn ways(
-    head: &[u16; TRANSITIONS],
-    next: &[u16; PLACES],
-    goal: &[u8; PLACES],
-    t: usize,
-) -> [u16; TRANSITIONS]
+// The empty place by which each transition is first reached from t, t itself too: none where it is not.
+pub fn ways(lists: &Lists, t: usize) -> [Option<u16>; TRANSITIONS]
     requires { t < most_transitions }
 {
     let mut search = Search {
-        head,
-        next,
-        goal,
-        via: [0; TRANSITIONS],
+        lists,
+        via: [None; TRANSITIONS],
         queue: [0; TRANSITIONS],
         end: 0,
     };

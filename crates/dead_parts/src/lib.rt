@@ -3,10 +3,11 @@
 
 mod pile;
 
-ghost use Rattle.std.specs.Prelude.{◌<◌, ◌≤◌};
-ghost use Rattle.net.specs.Limits.{most_operations, most_transitions};
+ghost use Rattle.std.specs.Prelude.{◌<◌};
+ghost use Rattle.net.specs.Limits.{most_transitions};
 
-use dead_lists::{follow, goal_of};
+use dead_lists::Lists;
+use net::wiring::Wiring;
 use net::{PLACES, TRANSITIONS};
 use pile::Pile;
 
@@ -19,10 +20,9 @@ const MOVES: usize = PLACES + TRANSITIONS;
 // How far the search is.
 #[derive(Drop)]
 struct Search<'a> {
-    // The places not yet taken, in lists by the transition that feeds them.
-    head: [u16; TRANSITIONS],
-    next: &'a [u16; PLACES],
-    goal: &'a [u8; PLACES],
+    // The empty places, and the first of each transition that is not yet taken.
+    lists: &'a Lists,
+    left: [Option<u16>; TRANSITIONS],
     // Each transition met has a number, in the order of meeting; `last` was given last.
     number: [u8; TRANSITIONS],
     last: u8,
@@ -55,11 +55,8 @@ impl Search<'_> {
 
     // A place from t leads to u.
     fn meet(&mut self, t: usize, u: usize)
-        requires { t < most_transitions }
+        requires { (t < most_transitions) × (u < most_transitions) }
     {
-        if u >= TRANSITIONS {
-            return;
-        }
         if self.level[u] == 0 {
             self.enter(u);
         } else {
@@ -94,12 +91,13 @@ impl Search<'_> {
     fn advance(&mut self, t: usize)
         requires { t < most_transitions }
     {
-        let q = usize::from(self.head[t]);
-        if q == 0 {
+        let Some(p) = self.left[t] else {
             self.leave(t);
-        } else {
-            self.head[t] = follow(self.next, q) as u16;
-            self.meet(t, goal_of(self.goal, q));
+            return;
+        };
+        self.left[t] = self.lists.after(p);
+        if let Some(u) = self.lists.goal(p) {
+            self.meet(t, u);
         }
     }
 
@@ -121,18 +119,10 @@ impl Search<'_> {
 }
 
 // A level for each transition, by the lists of the empty places. An empty place leads to a higher one, or stays in its component.
-pub fn part_levels(
-    n: usize,
-    head: &[u16; TRANSITIONS],
-    next: &[u16; PLACES],
-    goal: &[u8; PLACES],
-) -> [u8; TRANSITIONS]
-    requires { n ≤ most_operations }
-{
+pub fn part_levels(g: &Wiring, lists: &Lists) -> [u8; TRANSITIONS] {
     let mut search = Search {
-        head: *head,
-        next,
-        goal,
+        lists,
+        left: *lists.heads(),
         number: [0; TRANSITIONS],
         last: 0,
         level: [0; TRANSITIONS],
@@ -140,7 +130,7 @@ pub fn part_levels(
         path: Pile::new(),
         pile: Pile::new(),
     };
-    for t in 0..3 * n + 2 {
+    for t in 0..g.transitions() {
         search.begin(t);
     }
     search.level

@@ -1,9 +1,12 @@
--- `spread`: an entry leads to a lower one, so it ends.
-use Prim.Native.Nat.{◌<◌}
+-- `spread`: a place leads on to a lower one, so it ends.
+use Prim.Native.Nat.{◌+◌, ℕ}
+use Rattle.std.specs.Prelude.{None, Option, Some}
 use Rattle.dead_hints.proofs.ways.Search.spread.Given as goal
 
-abbrev pub invariant-loop-q : goal.invariant-loop-q
-invariant-loop-q l = l.q < 65536
+-- How many places can be left.
+abbrev pub left : Option ℕ → ℕ
+left None = 0
+left (Some p) = p + 1
 
-abbrev pub decreases-loop-q : goal.decreases-loop-q
-decreases-loop-q l = l.q
+abbrev pub decreases-loop-next : goal.decreases-loop-next
+decreases-loop-next l = left l.next
