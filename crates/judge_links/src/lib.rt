@@ -3,15 +3,15 @@
 
 ghost use Rattle.std.specs.Prelude.{◌≤◌};
 ghost use Rattle.net.specs.Limits.{most_edges};
-ghost use Rattle.net.specs.Good.{Wired};
 ghost use Rattle.net.specs.Rules.{row7};
 ghost use Rattle.refusal.specs.helpers.Answers.{Finds, Says};
 ghost use Rattle.net.specs.Plan.{wires};
 ghost use Rattle.judge_tour.specs.helpers.Ended.{Roomy};
 ghost use Rattle.judge_links.specs.helpers.Ticks.{Bound, Ticks};
+ghost use Rattle.net.specs.helpers.Wirings.{over, wires_of};
 
+use net::wiring::Wiring;
 use net::{EDGES, NODES};
-use refusal::Found;
 
 // Marks each node that is an end of an edge: its from, or its to, whichever row is lent.
 fn tick(e: usize, ends: &[u8; EDGES]) -> [u8; NODES]
@@ -34,16 +34,15 @@ fn bound(n: usize, node: usize, out: u8, into: u8) -> bool
 }
 
 // The lowest node that lacks an edge out or in.
-pub fn first_bare<'a>(n: usize, e: usize, from: &'a [u8; EDGES], to: &'a [u8; EDGES]) -> Found
-    requires { Wired n e from.now to.now }
-    ensures { Finds (row7 (wires n e from.now to.now)) result }
+pub fn first_bare(g: &Wiring) -> Option<usize>
+    ensures { Finds (row7 (wires_of g.now)) result }
 {
-    let out = tick(e, from);
-    let into = tick(e, to);
-    for node in 0..n + 2 {
-        if !bound(n, node, out[node], into[node]) {
-            return Found::At(node);
+    let out = tick(g.edges, g.from);
+    let into = tick(g.edges, g.to);
+    for node in 0..g.operations + 2 {
+        if !bound(g.operations, node, out[node], into[node]) {
+            return Some(node);
         }
     }
-    Found::Nothing
+    None
 }
