@@ -1,5 +1,4 @@
-// `start`, `step` and `run` of a graph that look has accepted, over its rows, and what they reply.
+// `start`, `step` and `run` of a graph that look has accepted, over its rows.
 #![tactic(auto)]
 
 pub mod graph;
-pub mod reply;

@@ -16,20 +16,17 @@ pub fn answer<'a>(
     mark: &'a [u8; EDGES],
     marking: &[u8],
     transition: u16,
-) -> Wait
+) -> Result<u32, Refusal>
     requires { GoodWiring n e from.now to.now mark.now }
     ensures { GraphWaits (plotted n e from.now to.now mark.now) marking.now transition result }
 {
     let verdict = accepts(n, e, from, to, mark, marking);
-    if let Verdict::Refused(refusal) = verdict {
-        return Wait::Refused(refusal);
+    if let Err(refusal) = verdict {
+        return Err(refusal);
     }
     let t = usize::from(transition);
     if 3 * n + 1 < t {
-        return Wait::Refused(Refusal {
-            number: 12,
-            place: 0,
-        });
+        return Err(refuse(Reason::Transition, 0));
     }
-    Wait::Waits(wait_sum(n, e, from, to, marking, t))
+    Ok(wait_sum(n, e, from, to, marking, t))
 }

@@ -11,11 +11,11 @@ use Rattle.accepting.proofs.Judging.{marking_given, marking_sound}
 use Rattle.waiting_graph.proofs.GraphAnswers.{answers_12, answers_row, answers_wait}
 use Rattle.waiting_graph.proofs.answer.answer.Goals as goal
 
-pub returns-in-Refused : goal.returns-in-Refused
-returns-in-Refused c =
+pub returns-in-Err : goal.returns-in-Err
+returns-in-Err c =
     let plan : Plan = plotted c.args.n c.args.e c.args.from.now c.args.to.now c.args.mark.now in
     let bytes : List ℕ = c.args.marking.now in
-    answers_row plan bytes (marking_given bytes plan c.accepts-verdict.ensures c.in-Refused.is)
+    answers_row plan bytes (marking_given bytes plan c.accepts-verdict.ensures c.in-Err.is)
 
 pub returns-then-n-t : goal.returns-then-n-t
 returns-then-n-t c =
