@@ -1,17 +1,16 @@
 -- Listing the tight places, from the last to the first.
 use mathlib.Core.Path.{◌≡◌, ap, sym, ◌∙◌, subst}
 use mathlib.Core.List.{List}
-use Prim.Native.Nat.{◌*◌, ◌+◌, ◌<◌, ◌≤◌, ℕ}
+use Prim.Native.Nat.{◌+◌, ◌<◌, ◌≤◌, ℕ}
 use native.Mathlib.Omega.{arith}
 use native.Mathlib.Decide.{ℕ_discrete}
-use lib.ListN.{length-set, set}
+use lib.ListN.{set}
 use lib.Seq.{get_or-set_other, get_or-set_same}
 use Rattle.marked.specs.Net.{Net, Proper, at}
 use Rattle.net.specs.Limits.{most_places, most_transitions}
 use Rattle.net.specs.Graph.{RunsFrom}
 use Rattle.fraction.specs.helpers.Loaded.{Loaded}
-use Rattle.circuit_tight.specs.helpers.Lists.{Drawn, Listed, Listing, Next, TightIn, Whole}
-use Rattle.circuit_tight.specs.helpers.Lists.Drawn.{listed, passed}
+use Rattle.circuit_tight.specs.helpers.Lists.{Lengthened, Listed, Listing, Next, TightIn, Whole}
 
 -- One place more: it does not leave v along T.
 next_lower : {g : Net} {T : ℕ → Type 0} {v p q : ℕ} → Next g T v (p + 1) q → (T p → g.src p ≡ v → ⊥) → Next g T v p q
@@ -20,21 +19,6 @@ next_lower {g} {T} {v} {p} {q} n f = record {
   fits = λ h. (omega (arith, (n.fits h).0), (n.fits h).1, (n.fits h).2);
   none = λ x i j t e. elim (ℕ_discrete x p) [ yes z ↦ f (subst T z t) (sym (ap g.src z) ∙ e) | no z ↦ n.none x (omega arith) j t e ];
 }
-
--- the gain and the cost told by other words
-pub drawn_as :
-    {s t p up up2 down down2 : ℕ} {d head next src dst h k u w : List ℕ} → up ≡ up2 → down ≡ down2
-    → Drawn s t p up down d head next src dst h k u w → Drawn s t p up2 down2 d head next src dst h k u w
-drawn_as e f x = rw (← e, ← f) x
-
-pub whole_drawn : {s t p up down : ℕ} {d head next src dst h k u w : List ℕ} → Whole head next src dst → Drawn s t p up down d head next src dst h k u w → Whole h k u w
-whole_drawn {s} {t} {p} {head = head} {next = next} {src = src} {dst = dst} o (listed e) = record {
-  heads = length-set head s p ∙ o.heads;
-  nexts = length-set next p (at head s) ∙ o.nexts;
-  sources = length-set src p s ∙ o.sources;
-  targets = length-set dst p t ∙ o.targets;
-}
-whole_drawn o (passed e) = o
 
 module _ {g : Loaded} {a b : ℕ} {d : List ℕ} where
   -- The place p is listed,
@@ -94,24 +78,18 @@ module _ {g : Loaded} {a b : ℕ} {d : List ℕ} where
         low = l.low;
       }
 
-    -- The test of the place, with its ends told by other words.
-    up_is : at d s + b * g.time s ≡ at d (g.net.src p) + b * g.time (g.net.src p)
-    up_is = rw es
+  -- One place more is listed.
+  module _
+      {head next src dst : List ℕ} {p s t : ℕ} (ok : Proper g.net) (few : g.net.transitions ≤ most_transitions) (many : g.net.places ≤ most_places)
+      (r : RunsFrom g.net p s t) (o : Whole head next src dst) where
+    pub longer_put : TightIn g a b d p → Lengthened g a b d (p + 1) p head next src dst (set head s p) (set next p (at head s)) (set src p s) (set dst p t)
+    longer_put tight =
+        let hs = ok.src_in p r.place in
+        let ht = ok.dst_in p r.place in
+        record { more = λ l. listing_put l o r.place (omega (arith, many, r.place)) r.leaves r.comes (omega (arith, r.leaves)) few (omega (arith, r.comes)) tight }
 
-    down_is : at d t + a * g.held p ≡ at d (g.net.dst p) + a * g.held p
-    down_is = rw et
-
-    listing_one : {h k u w : List ℕ} → Drawn s t p (b * g.time s) (a * g.held p) d head next src dst h k u w → Listing g a b d p h k u w
-    listing_one (listed e) = listing_put (sym up_is ∙ e ∙ down_is)
-    listing_one (passed f) = listing_past (λ e. f (up_is ∙ e ∙ sym down_is))
-
-  -- The same of a place from s to t.
-  pub listing_run :
-      {head next src dst h k u w : List ℕ} {p s t : ℕ} → Proper g.net → g.net.transitions ≤ most_transitions → g.net.places ≤ most_places → RunsFrom g.net p s t
-      → Whole head next src dst → Drawn s t p (b * g.time s) (a * g.held p) d head next src dst h k u w
-      → Listing g a b d (p + 1) head next src dst → Listing g a b d p h k u w
-  listing_run {p = p} ok few many r o x l =
-      let inside = r.place in
-      let hs = ok.src_in p inside in
-      let ht = ok.dst_in p inside in
-      listing_one l o inside (omega arith) r.leaves r.comes (omega (arith, r.leaves)) few (omega (arith, r.comes)) x
+    pub longer_past : (TightIn g a b d p → ⊥) → Lengthened g a b d (p + 1) p head next src dst head next src dst
+    longer_past loose =
+        let hs = ok.src_in p r.place in
+        let ht = ok.dst_in p r.place in
+        record { more = λ l. listing_past l o r.place (omega (arith, many, r.place)) r.leaves r.comes (omega (arith, r.leaves)) few (omega (arith, r.comes)) loose }

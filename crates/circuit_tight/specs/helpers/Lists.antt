@@ -1,5 +1,5 @@
 -- The lists of tight places: for each transition its tight outgoing places in rising order.
-use Rattle.std.specs.Prelude.{◌≡◌, ◌≢◌, List, ◌+◌, ◌<◌, ◌≤◌, ℕ, length, set}
+use Rattle.std.specs.Prelude.{◌≡◌, ◌≢◌, List, ◌+◌, ◌<◌, ◌≤◌, ℕ, length}
 use Rattle.marked.specs.Net.{Net, at}
 use Rattle.marked.specs.Bounds.{Tight}
 use Rattle.net.specs.Limits.{most_places, most_transitions}
@@ -45,11 +45,6 @@ pub record Whole (head next src dst : List ℕ) : Type 0 where
   pub sources : length src ≡ most_places
   pub targets : length dst ≡ most_places
 
--- One place p from s to t, tried: it is put in front of the places that leave s where it is tight; else all is kept.
-pub data Drawn (s t p up down : ℕ) (d head next src dst : List ℕ) : List ℕ → List ℕ → List ℕ → List ℕ → Type 0 where
-  listed : at d s + up ≡ at d t + down → Drawn s t p up down d head next src dst (set head s p) (set next p (at head s)) (set src p s) (set dst p t)
-  passed : at d s + up ≢ at d t + down → Drawn s t p up down d head next src dst head next src dst
-
 -- The tight places from lo on are listed, and no other.
 pub record Listing (g : Loaded) (a b : ℕ) (d : List ℕ) (lo : ℕ) (head next src dst : List ℕ) : Type 0 where
   pub heads : (v : ℕ) → v < g.net.transitions → Next g.net (TightIn g a b d) v lo (at head v)
@@ -61,5 +56,4 @@ pub record Listing (g : Loaded) (a b : ℕ) (d : List ℕ) (lo : ℕ) (head next
 
 -- The four arrays became h, k, u and w: what was listed from hi on is now listed from lo on.
 pub record Lengthened (g : Loaded) (a b : ℕ) (d : List ℕ) (hi lo : ℕ) (head next src dst h k u w : List ℕ) : Type 0 where
-  pub whole : Whole h k u w
   pub more : Listing g a b d hi head next src dst → Listing g a b d lo h k u w
