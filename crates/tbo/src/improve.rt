@@ -6,12 +6,17 @@ ghost use Rattle.tbo.specs.helpers.Improved.{Improved, lowly};
 
 use fraction::load::{Load, Rate};
 use net::TRANSITIONS;
-use tbo_order::ITEMS;
+use tbo_order::{ITEMS, Item};
 use tbo_round::{follow, go_round};
 use tbo_sweep::sweep;
 
 // Sweeps until none raises anything, which certifies, or until the notes come round: a closed walk that has more.
-pub fn improve(g: &Load, rate: Rate, ord: &[u8; ITEMS], d: &mut [u64; TRANSITIONS]) -> Option<Rate>
+pub fn improve(
+    g: &Load,
+    rate: Rate,
+    ord: &[Item; ITEMS],
+    d: &mut [u64; TRANSITIONS],
+) -> Option<Rate>
     requires ordered { Ordered g.now.wiring.operations g.now.wiring.edges ord.now }
     requires level { Level lowly d.old }
     ensures { Improved (loaded_of g.now) rate.time rate.tokens d.new result }

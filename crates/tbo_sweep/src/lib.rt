@@ -6,13 +6,13 @@ ghost use Rattle.marked.specs.Net.{at};
 ghost use Rattle.net.specs.helpers.Wirings.{places_of};
 ghost use Rattle.fraction.specs.helpers.Loaded.{Leads, highest};
 ghost use Rattle.fraction.specs.helpers.Loads.{loaded_of};
-ghost use Rattle.tbo_order.specs.helpers.Items.{Item, Ordered};
+ghost use Rattle.tbo_order.specs.helpers.Items.{ItemOf, Ordered};
 ghost use Rattle.tbo_sweep.specs.helpers.Places.{Between, Every, Of};
 ghost use Rattle.tbo_sweep.specs.helpers.Raises.{Raised, Room, SweptArrays};
 
 use fraction::load::{Load, Rate};
-use net::{EDGES, TRANSITIONS};
-use tbo_order::ITEMS;
+use net::TRANSITIONS;
+use tbo_order::{ITEMS, Item};
 
 // The raise of t from s over the place p, which leads there. The answer is t if it rose.
 fn raise(
@@ -87,24 +87,24 @@ fn raise_item(
     rate: Rate,
     d: &mut [u64; TRANSITIONS],
     pred: &mut [u16; TRANSITIONS],
-    x: usize,
+    x: Item,
 ) -> Option<usize>
-    requires item { Item g.now.wiring.operations g.now.wiring.edges x }
+    requires item { ItemOf g.now.wiring.operations g.now.wiring.edges x }
     requires room { Room (2 * highest) d.old pred.old }
     ensures { SweptArrays (loaded_of g.now) rate.time rate.tokens (Of g.now.wiring.operations x) 3
         d.old pred.old d.new pred.new result }
 {
-    if x >= EDGES {
-        return raise_op(g, rate, d, pred, x - EDGES);
+    match x {
+        Item::Operation(i) => raise_op(g, rate, d, pred, usize::from(i)),
+        Item::Edge(k) => raise_edge(g, rate, d, pred, usize::from(k)),
     }
-    raise_edge(g, rate, d, pred, x)
 }
 
 // Every place once, item by item in the order of ord.
 pub fn sweep(
     g: &Load,
     rate: Rate,
-    ord: &[u8; ITEMS],
+    ord: &[Item; ITEMS],
     d: &mut [u64; TRANSITIONS],
     pred: &mut [u16; TRANSITIONS],
 ) -> Option<usize>
@@ -115,7 +115,7 @@ pub fn sweep(
 {
     let mut last = None;
     for &x in &ord[..g.wiring.operations + g.wiring.edges] {
-        let risen = raise_item(g, rate, d, pred, usize::from(x));
+        let risen = raise_item(g, rate, d, pred, x);
         last = risen.or(last);
     }
     last
