@@ -1,4 +1,4 @@
--- The tight places of an operation and of an edge, listed one after the other; and the lists at the start.
+-- A tight place put in front of the others; and the lists at the start.
 use mathlib.Core.List.{List}
 use Prim.Native.Nat.{◌*◌, ◌+◌, ◌≤◌, ℕ}
 use native.Mathlib.Omega.{arith}
@@ -20,17 +20,12 @@ module _ {n e : ℕ} {from to marking times : List ℕ} (ok : Weighted n e from 
   many : 3 * n + 2 * e ≤ most_places
   many = omega (arith, ok.wired.operations, ok.wired.edges)
 
-  -- The place p, which runs from s to t, is put in front of the places that leave s, or passed.
+  -- The place p, which runs from s to t, is put in front of the places that leave s.
   module _ {a b p s t : ℕ} {d head next src dst : List ℕ} (r : RunsFrom (net_of (wires n e from to)) p s t) (o : Whole head next src dst) where
     pub place_put :
         TightIn (loaded n e from to marking times) a b d p
         → Lengthened (loaded n e from to marking times) a b d (p + 1) p head next src dst (set head s p) (set next p (at head s)) (set src p s) (set dst p t)
     place_put = longer_put (weighted_proper ok) few many r o
-
-    pub place_past :
-        (TightIn (loaded n e from to marking times) a b d p → ⊥)
-        → Lengthened (loaded n e from to marking times) a b d (p + 1) p head next src dst head next src dst
-    place_past = longer_past (weighted_proper ok) few many r o
 
   -- At the start nothing is listed, and the lists are rightly empty.
   pub listing_start :

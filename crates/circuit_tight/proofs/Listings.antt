@@ -93,3 +93,9 @@ module _ {g : Loaded} {a b : ℕ} {d : List ℕ} where
         let hs = ok.src_in p r.place in
         let ht = ok.dst_in p r.place in
         record { more = λ l. listing_past l o r.place (omega (arith, many, r.place)) r.leaves r.comes (omega (arith, r.leaves)) few (omega (arith, r.comes)) loose }
+
+  -- Two steps in a row, where one begins as the other ends.
+  pub longer_then :
+      {hi hi2 mid mid2 lo : ℕ} {head next src dst h k u w h2 k2 u2 w2 : List ℕ} → hi ≡ hi2 → mid ≡ mid2 → Lengthened g a b d hi mid head next src dst h k u w
+      → Lengthened g a b d mid2 lo h k u w h2 k2 u2 w2 → Lengthened g a b d hi2 lo head next src dst h2 k2 u2 w2
+  longer_then e f x y = rw (← e) (record { more = λ l. y.more (rw (← f) (x.more l)) })
