@@ -1,6 +1,5 @@
-// `wait` of a graph that look has accepted, over its rows, and what it replies.
+// `wait` of a graph that look has accepted, over its rows.
 #![tactic(auto)]
 
 pub mod answer;
-pub mod reply;
 pub mod sum;
