@@ -8,6 +8,3 @@ loop-i-init c = timed_none c.args.g.now.times.now
 
 pub loop-i-preserved : goal.loop-i-preserved
 loop-i-preserved c = timed_on (omega arith) c.loop-i.invariant
-
-pub returns : goal.returns
-returns c = record { each = λ t h. c.loop-i.invariant.each t (omega arith) }
