@@ -27,7 +27,7 @@ pub record Popped (g : Net) (T : ℕ → Type 0) (root goal : ℕ) (M N A : ℕ 
   pub place : ℕ
   pub rest : List ℕ
   pub inside : place < g.places
-  pub note : N x ≡ place + 1
+  pub note : N x ≡ place
   pub parts : ts ≡ rest ++ (place ∷ [])
   pub search : Search g T root goal M N A (g.src place) rest
 
@@ -79,7 +79,7 @@ module _ {g : Net} {T : ℕ → Type 0} {root goal : ℕ} where
 
       -- the next place leads on
       module _ (inside : q < g.places) (tight : T q) (leaves : g.src q ≡ x) where
-        pub push : {M2 N2 : ℕ → ℕ} → M (g.dst q) ≡ 0 → goal ≢ g.dst q → Put M M2 (g.dst q) 1 → Put N N2 (g.dst q) (q + 1) → Search g T root goal M2 N2 B (g.dst q) (ts ++ (q ∷ []))
+        pub push : {M2 N2 : ℕ → ℕ} → M (g.dst q) ≡ 0 → goal ≢ g.dst q → Put M M2 (g.dst q) 1 → Put N N2 (g.dst q) q → Search g T root goal M2 N2 B (g.dst q) (ts ++ (q ∷ []))
         push {M2} {N2} fresh other pm pn = record {
           trail = on q (trail_keep keeps notes s.trail) inside tight leaves (best_on s q next) here_marked pn.new;
           listed = listed_on;
@@ -120,7 +120,7 @@ module _ {g : Net} {T : ℕ → Type 0} {root goal : ℕ} where
                 (keeps v o.0, (elsewhere v o.0, a))
 
         -- the next place leads to the goal
-        pub reached : {N2 : ℕ → ℕ} → g.dst q ≡ goal → Put N N2 (g.dst q) (q + 1) → FirstNoted g T root goal N2
+        pub reached : {N2 : ℕ → ℕ} → g.dst q ≡ goal → Put N N2 (g.dst q) q → FirstNoted g T root goal N2
         reached {N2} e pn =
             let r : Trace g T root goal N2 (g.src q) ts = rw leaves (trail_trace (λ v n. pn.same v (λ d. n (ap M (d ∙ e) ∙ s.free))) s.trail) in
             record {

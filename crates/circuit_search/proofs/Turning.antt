@@ -2,7 +2,7 @@
 use mathlib.Core.Path.{◌≡◌, ap, refl, sym, ◌∙◌, subst}
 use mathlib.Core.Logic.{◌≢◌}
 use mathlib.Core.List.{List, [], ◌++◌, ◌∷◌}
-use Prim.Native.Nat.{◌+◌, ◌-◌, ◌<◌, ◌≤◌, ℕ}
+use Prim.Native.Nat.{◌+◌, ◌<◌, ◌≤◌, ℕ}
 use native.Mathlib.Omega.{arith}
 use native.Mathlib.Decide.{dec_lt, ℕ_discrete}
 use lib.ListN.{length, length-set, set}
@@ -62,10 +62,13 @@ module _ {nt np : ℕ} {next src dst : List ℕ} (k : Threaded nt np next src ds
       popped : x ≢ root → Popped (drawn nt np src dst) (Listed dst) root goal (at seen) (at via) (at (set cur x (np + 1))) x u.ts
       popped r = pop u.search.trail u.search (sym eq ∙ e) (put_set cur x (np + 1) (omega (arith, u.long, stands))) r
 
-      pub step_back : {r y : ℕ} → x ≢ root → r ≡ at via x → y ≡ at src (r - 1) → Under nt np src dst root goal seen via (set cur x (np + 1)) y
+      pub noted_in : {r : ℕ} → x ≢ root → r ≡ at via x → r < np
+      noted_in w er = let p = popped w in omega (arith, p.note, p.inside)
+
+      pub step_back : {r y : ℕ} → x ≢ root → r ≡ at via x → y ≡ at src r → Under nt np src dst root goal seen via (set cur x (np + 1)) y
       step_back {r} {y} w er ey =
           let p = popped w in
-          let z : p.place ≡ r - 1 = omega (arith, p.note) in
+          let z : p.place ≡ r = omega (arith, p.note) in
           record {
             ts = p.rest;
             search = subst (λ (v : ℕ). Search (drawn nt np src dst) (Listed dst) root goal (at seen) (at via) (at (set cur x (np + 1))) v p.rest) (ap (at src) z ∙ sym ey) p.search;
@@ -114,25 +117,25 @@ module _ {nt np : ℕ} {next src dst : List ℕ} (k : Threaded nt np next src ds
         leads : y < 122
         leads = omega (arith, k.few, leads_in)
 
-        noted : Put (at via) (at (set via y (q + 1))) (at dst q) (q + 1)
-        noted = subst (λ (z : ℕ). Put (at via) (at (set via y (q + 1))) z (q + 1)) ey (put_set via y (q + 1) (omega (arith, u.deep, leads)))
+        noted : Put (at via) (at (set via y q)) (at dst q) q
+        noted = subst (λ (z : ℕ). Put (at via) (at (set via y q)) z q) ey (put_set via y q (omega (arith, u.deep, leads)))
 
-        pub go_on : at seen y ≡ 0 → goal ≢ y → Under nt np src dst root goal (set seen y 1) (set via y (q + 1)) (set cur x (at next q)) y
+        pub go_on : at seen y ≡ 0 → goal ≢ y → Under nt np src dst root goal (set seen y 1) (set via y q) (set cur x (at next q)) y
         go_on n w =
             let marked : Put (at seen) (at (set seen y 1)) (at dst q) 1 = subst (λ (z : ℕ). Put (at seen) (at (set seen y 1)) z 1) ey (put_set seen y 1 (omega (arith, u.wide, leads))) in
             let r = push u.search (sym eq) put after less tight leaves (rw ey at n) (λ z. w (z ∙ sym ey)) marked noted in
             record {
               ts = u.ts ++ (q ∷ []);
               search = subst
-                  (λ (z : ℕ). Search (drawn nt np src dst) (Listed dst) root goal (at (set seen y 1)) (at (set via y (q + 1))) (at (set cur x (at next q))) z (u.ts ++ (q ∷ [])))
+                  (λ (z : ℕ). Search (drawn nt np src dst) (Listed dst) root goal (at (set seen y 1)) (at (set via y q)) (at (set cur x (at next q))) z (u.ts ++ (q ∷ [])))
                   (sym ey)
                   r;
               start = u.start;
               wide = length-set seen y 1 ∙ u.wide;
-              deep = length-set via y (q + 1) ∙ u.deep;
+              deep = length-set via y q ∙ u.deep;
               long = length-set cur x (at next q) ∙ u.long;
               low = low_next (omega (arith, after.most));
             }
 
-        pub arrive : y ≡ goal → FirstNoted (drawn nt np src dst) (Listed dst) root goal (at (set via y (q + 1))) × (length (set via y (q + 1)) ≡ 122)
-        arrive e = (reached u.search (sym eq) put after less tight leaves (sym ey ∙ e) noted, length-set via y (q + 1) ∙ u.deep)
+        pub arrive : y ≡ goal → FirstNoted (drawn nt np src dst) (Listed dst) root goal (at (set via y q)) × (length (set via y q) ≡ 122)
+        arrive e = (reached u.search (sym eq) put after less tight leaves (sym ey ∙ e) noted, length-set via y q ∙ u.deep)

@@ -1,5 +1,5 @@
 -- What a move of the search leads to, and what the search answers.
-use Rattle.std.specs.Prelude.{◌≡◌, Bool, true, false, List, ◌+◌, ◌<◌, ◌≤◌, ℕ, length}
+use Rattle.std.specs.Prelude.{◌≡◌, Bool, true, false, Option, Some, None, List, ◌+◌, ◌<◌, ◌≤◌, ℕ, length}
 use Rattle.marked.specs.Sums.{upto}
 use Rattle.marked.specs.Net.{at}
 use Rattle.net.specs.Limits.{most_transitions}
@@ -42,9 +42,14 @@ pub record Tried (nt np : ℕ) (src dst : List ℕ) (p : ℕ) (via : List ℕ) (
   pub yes : r ≡ true → FirstNoted (drawn nt np src dst) (Listed dst) (at dst p) (at src p) (at via)
   pub no : r ≡ false → Listed dst p → Cut (drawn nt np src dst) (Listed dst) (at dst p) (at src p)
 
--- r is the lowest listed place with a way back, and via notes the first; or there is none, and r is the number of places.
+-- r is the lowest listed place with a way back, and via notes the first.
 pub record LowestBack (nt np : ℕ) (src dst via : List ℕ) (r : ℕ) : Type 0 where
-  pub most : r ≤ np
+  pub inside : r < np
   pub below : (p : ℕ) → p < r → Listed dst p → Cut (drawn nt np src dst) (Listed dst) (at dst p) (at src p)
-  pub fits : r < np → Listed dst r
-  pub noted : r < np → FirstNoted (drawn nt np src dst) (Listed dst) (at dst r) (at src r) (at via)
+  pub listed : Listed dst r
+  pub noted : FirstNoted (drawn nt np src dst) (Listed dst) (at dst r) (at src r) (at via)
+
+-- There is such a place, or no listed place has a way back.
+abbrev pub Lowest : ℕ → ℕ → List ℕ → List ℕ → List ℕ → Option ℕ → Type 0
+Lowest nt np src dst via (Some r) = LowestBack nt np src dst via r
+Lowest nt np src dst via None = (p : ℕ) → p < np → Listed dst p → Cut (drawn nt np src dst) (Listed dst) (at dst p) (at src p)

@@ -1,5 +1,5 @@
 -- The ordered depth-first search for the first way from root to goal along places of T.
-use Rattle.std.specs.Prelude.{◌≡◌, ◌≢◌, ◌⊎◌, List, [], ◌++◌, ◌∷◌, ◌+◌, ◌<◌, ◌≤◌, ℕ}
+use Rattle.std.specs.Prelude.{◌≡◌, ◌≢◌, ◌⊎◌, List, [], ◌++◌, ◌∷◌, ◌<◌, ◌≤◌, ℕ}
 use Rattle.marked.specs.Lists.{All, Avoids, Distinct}
 use Rattle.marked.specs.Net.{Net, Walk}
 use Rattle.marked.specs.Circuits.{froms}
@@ -21,7 +21,7 @@ module _ (g : Net) (T : ℕ → Type 0) (root goal : ℕ) where
     here : Trail M N root []
     on :
         {x : ℕ} {ts : List ℕ} (q : ℕ) → Trail M N x ts → q < g.places → T q → g.src q ≡ x → Best (ts ++ (q ∷ [])) → M (g.dst q) ≢ 0
-        → N (g.dst q) ≡ q + 1 → Trail M N (g.dst q) (ts ++ (q ∷ []))
+        → N (g.dst q) ≡ q → Trail M N (g.dst q) (ts ++ (q ∷ []))
 
   -- The state of the search: x and ts, the marks M, the notes N, and the place that each transition tries next, A.
   pub record Search (M N A : ℕ → ℕ) (x : ℕ) (ts : List ℕ) : Type 0 where
@@ -44,7 +44,7 @@ module _ (g : Net) (T : ℕ → Type 0) (root goal : ℕ) where
   -- The places ts from root to x are those that N notes, from x backwards.
   pub data Trace (N : ℕ → ℕ) : ℕ → List ℕ → Type 0 where
     start : Trace N root []
-    step : {ts : List ℕ} (q : ℕ) → Trace N (g.src q) ts → q < g.places → T q → N (g.dst q) ≡ q + 1 → Trace N (g.dst q) (ts ++ (q ∷ []))
+    step : {ts : List ℕ} (q : ℕ) → Trace N (g.src q) ts → q < g.places → T q → N (g.dst q) ≡ q → Trace N (g.dst q) (ts ++ (q ∷ []))
 
   -- The first way, noted in N.
   pub record FirstNoted (N : ℕ → ℕ) : Type 0 where
