@@ -1,17 +1,45 @@
 // Prints the dead transition, if there is one, and the distances from every transition, for document 01's graphs P1 to P6 at the start.
 #![tactic(auto)]
 
-ghost use Rattle.std.specs.Prelude.{◌+◌, ◌*◌, ◌<◌, ◌≤◌, length};
-ghost use Rattle.net.specs.helpers.Lent.{Lent};
-ghost use Rattle.net_main.specs.Columns.{Column, Held};
+ghost use Rattle.std.specs.Prelude.{◌<◌, ◌≤◌, length};
+ghost use Rattle.net.specs.Good.{Marked, Wired};
+ghost use Rattle.net_main.specs.Columns.{Column};
 
 use dead::first_dead;
 use distances::distances;
+use net::rows::Plotted;
+use net::wiring::Wiring;
 use net::{EDGES, PLACES, TRANSITIONS};
 use net_start::start::start_marking;
-use refusal::Found;
 use std::io;
 use std::io::Write;
+
+// A graph, in columns.
+#[derive(Drop)]
+struct Table {
+    operations: usize,
+    edges: usize,
+    from: [u8; EDGES],
+    to: [u8; EDGES],
+    mark: [u8; EDGES],
+    ghost wired: { Wired operations edges from to },
+    ghost marked: { Marked operations edges mark },
+}
+
+impl Table {
+    fn lend(&self) -> Plotted<'_> {
+        let wiring = Wiring {
+            operations: self.operations,
+            edges: self.edges,
+            from: &self.from,
+            to: &self.to,
+        };
+        Plotted {
+            wiring,
+            mark: &self.mark,
+        }
+    }
+}
 
 // One column of an edge table with three numbers an edge, each held between least and most.
 fn column(edges: &[[u8; 3]], c: usize, least: u8, most: u8) -> [u8; EDGES]
@@ -25,82 +53,47 @@ fn column(edges: &[[u8; 3]], c: usize, least: u8, most: u8) -> [u8; EDGES]
     out
 }
 
-// The first k entries, in one line.
-fn line<W: Write>(out: &mut W, d: &[u16; TRANSITIONS], k: usize) -> io::Result<()>
-    requires { k ≤ 122 }
+// The graph of n operations and these edges, each node and mark held within its limits.
+fn held(n: usize, edges: &[[u8; 3]]) -> Table
+    requires { (1 ≤ n) × (n ≤ 40) × (length edges.now ≤ 5) }
 {
-    for x in &d[..k] {
+    let from = column(edges, 0, 0, n as u8);
+    let to = column(edges, 1, 1, n as u8 + 1);
+    let mark = column(edges, 2, 0, 1);
+    Table {
+        operations: n,
+        edges: edges.len(),
+        from,
+        to,
+        mark,
+    }
+}
+
+// The distances, in one line.
+fn line<W: Write>(out: &mut W, d: &[u16]) -> io::Result<()> {
+    for x in d {
         write!(out, " {x}")?;
     }
     out.write_all(b"\n")
 }
 
-// The distances from transition t.
-fn show_from<W: Write>(
-    out: &mut W,
-    n: usize,
-    e: usize,
-    from: &[u8; EDGES],
-    to: &[u8; EDGES],
-    marking: &[u8],
-    t: usize,
-) -> io::Result<()>
-    requires lent { Lent n e from.now to.now marking.now }
-    requires t_bound { t < 3 * n + 2 }
-{
-    let mut d = [0; TRANSITIONS];
-    distances(n, e, from, to, marking, t, &mut d);
-    write!(out, "from {t}")?;
-    line(out, &d, 3 * n + 2)
-}
-
 // The lowest transition on a token-free circuit.
-fn show_dead<W: Write>(
-    out: &mut W,
-    n: usize,
-    e: usize,
-    from: &[u8; EDGES],
-    to: &[u8; EDGES],
-    marking: &[u8],
-) -> io::Result<()>
-    requires { Lent n e from.now to.now marking.now }
-{
-    if let Found::At(t) = first_dead(n, e, from, to, marking) {
-        return writeln!(out, "dead {t}");
+fn show_dead<W: Write>(out: &mut W, g: &Wiring, marking: &[u8; PLACES]) -> io::Result<()> {
+    match first_dead(g, marking) {
+        Some(t) => writeln!(out, "dead {t}"),
+        None => out.write_all(b"dead none\n"),
     }
-    out.write_all(b"dead none\n")
 }
 
 // The distances from every transition.
-fn show_all<W: Write>(
-    out: &mut W,
-    n: usize,
-    e: usize,
-    from: &[u8; EDGES],
-    to: &[u8; EDGES],
-    marking: &[u8],
-) -> io::Result<()>
-    requires { Lent n e from.now to.now marking.now }
-{
-    for t in 0..3 * n + 2 {
-        show_from(out, n, e, from, to, marking, t)?;
+fn show_all<W: Write>(out: &mut W, g: &Wiring, marking: &[u8; PLACES]) -> io::Result<()> {
+    let mut d = [0; TRANSITIONS];
+    for t in 0..g.transitions() {
+        distances(g, marking, t, &mut d);
+        write!(out, "from {t}")?;
+        line(out, &d[..g.transitions()])?;
     }
     Ok(())
-}
-
-// Both.
-fn show_rows<W: Write>(
-    out: &mut W,
-    n: usize,
-    e: usize,
-    from: &[u8; EDGES],
-    to: &[u8; EDGES],
-    marking: &[u8],
-) -> io::Result<()>
-    requires { Lent n e from.now to.now marking.now }
-{
-    show_dead(out, n, e, from, to, marking)?;
-    show_all(out, n, e, from, to, marking)
 }
 
 // One graph at the start: its number, its operations, and its edges as from, to and mark.
@@ -108,13 +101,12 @@ fn show<W: Write>(out: &mut W, number: u64, n: usize, edges: &[[u8; 3]]) -> io::
     requires { (1 ≤ n) × (n ≤ 40) × (length edges.now ≤ 5) }
 {
     writeln!(out, "P{number}")?;
-    let e = edges.len();
-    let from = column(edges, 0, 0, n as u8);
-    let to = column(edges, 1, 1, n as u8 + 1);
-    let mark = column(edges, 2, 0, 1);
-    let mut marking = [0u8; PLACES];
-    start_marking(n, e, &mark, &mut marking);
-    show_rows(out, n, e, &from, &to, &marking)
+    let table = held(n, edges);
+    let g = table.lend();
+    let mut marking = [0; PLACES];
+    start_marking(&g, &mut marking);
+    show_dead(out, &g.wiring, &marking)?;
+    show_all(out, &g.wiring, &marking)
 }
 
 fn main(rt: HostRuntime) -> io::Result<()> {
