@@ -8,6 +8,7 @@ ghost use Rattle.input.specs.Begins.{Begins};
 use std::io;
 use std::io::Read;
 
+// A read may give fewer bytes than there is room for, so `done` grows by what each gave.
 // Reads until the buffer is full or the input ends, and tells how many bytes there are. What lies beyond the buffer is left unread.
 // A read that fails leaves the rest of the input, behind what was read before it.
 pub fn fill<R: Read>(input: &mut R, buffer: &mut [u8]) -> io::Result<usize>
