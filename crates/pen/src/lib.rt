@@ -67,7 +67,7 @@ impl Writer<'_> {
     }
 }
 
-// A word and a number, from `at` on; the answer is where the next byte goes.
+// A word and a number, for a buffer whose fill its owner keeps; says where the next byte goes.
 pub fn put_item(buf: &mut [u8], at: usize, name: &[u8], n: u64) -> usize
     requires { HasRoom buf.old at (item name.now n) }
     ensures { Put buf.old at (item name.now n) buf.new result }

@@ -1,4 +1,4 @@
-// Plain functions that put a word, a number or a line end into a lent buffer, from a place on.
+// Plain functions that put a word, a number or a line end into a lent buffer, from a place on: what the writer's methods stand on.
 #![tactic(auto, using(crate::proofs::PutLaws::putting), unfolding(crate::specs::Lines::line_end))]
 
 ghost use Rattle.pen_put.specs.Digits.{digits};
@@ -14,7 +14,7 @@ pub fn put_word(buf: &mut [u8], at: usize, s: &[u8]) -> usize
     end
 }
 
-// Writes the decimal digits of n: those of its tenth, then the last.
+// Writes the decimal digits of n: those of its tenth, then the last. (`write!` would answer a Result, and here nothing can fail.)
 pub fn put_number(buf: &mut [u8], at: usize, n: u64) -> usize
     requires { HasRoom buf.old at (digits n) }
     ensures { Put buf.old at (digits n) buf.new result }

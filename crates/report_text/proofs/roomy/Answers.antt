@@ -12,4 +12,4 @@ says_leb a b = go (leb a b) refl
     go false e = fails (λ h. omega (arith, leb-false a b e))
 
 pub returns : goal.returns
-returns c = says_leb 4096 c.args.bytes
+returns c = search says_leb
