@@ -2,7 +2,7 @@
 use mathlib.Core.Path.{◌≡◌, ap, refl, sym, ◌∙◌, subst}
 use mathlib.Core.Logic.{◌≢◌}
 use mathlib.Core.List.{List, [], ◌++◌, ◌∷◌, append_assoc, append-nil}
-use Prim.Native.Nat.{◌+◌, ◌-◌, ◌<◌, ◌≤◌, ℕ}
+use Prim.Native.Nat.{◌+◌, ◌<◌, ◌≤◌, ℕ}
 use native.Mathlib.Omega.{arith}
 use lib.ListN.{length, length-append}
 use Rattle.marked.specs.Lists.{All, Distinct}
@@ -26,16 +26,12 @@ module _ {g : Net} {T : ℕ → Type 0} where
     trace_walk start = stop
     trace_walk (step q t h i n) = join (trace_walk t) (go q h stop)
 
--- A note names its place.
-pub note_place : {r s p : ℕ} → r ≡ s → s ≡ p + 1 → p ≡ r - 1
-note_place e f = omega arith
-
 -- The last place of a trace.
 pub record Last (g : Net) (T : ℕ → Type 0) (root goal : ℕ) (N : ℕ → ℕ) (x : ℕ) (ts : List ℕ) : Type 0 where
   pub place : ℕ
   pub rest : List ℕ
   pub inside : place < g.places
-  pub note : N x ≡ place + 1
+  pub note : N x ≡ place
   pub parts : ts ≡ rest ++ (place ∷ [])
   pub trace : Trace g T root goal N (g.src place) rest
 
@@ -72,22 +68,22 @@ climb_start via l n = record { begins = l; noted = n; rest = n.way; done = []; t
 
 -- One place back.
 abbrev pub climb_on :
-    {nt np : ℕ} {src dst : List ℕ} {root goal : ℕ} {via : List ℕ} {x r y : ℕ} → (c : Climb nt np src dst root goal via x) → x ≢ root → r ≡ at via x → y ≡ at src (r - 1)
+    {nt np : ℕ} {src dst : List ℕ} {root goal : ℕ} {via : List ℕ} {x r y : ℕ} → (c : Climb nt np src dst root goal via x) → x ≢ root → r ≡ at via x → y ≡ at src r
     → Climb nt np src dst root goal via y
 climb_on {nt} {np} {src} {dst} {root} {goal} {via} {x} {r} {y} c f e ey = record {
   begins = c.begins;
   noted = c.noted;
   rest = (last c.trace f).rest;
-  done = (r - 1) ∷ c.done;
+  done = r ∷ c.done;
   trace = subst
       (λ (u : ℕ). Trace (drawn nt np src dst) (Listed dst) root goal (at via) u (last c.trace f).rest)
-      (ap (at src) (note_place e (last c.trace f).note) ∙ sym ey)
+      (ap (at src) (sym (e ∙ (last c.trace f).note)) ∙ sym ey)
       (last c.trace f).trace;
   parts =
       c.parts
       ∙ ap (λ (u : List ℕ). u ++ c.done) (last c.trace f).parts
       ∙ append_assoc (last c.trace f).rest ((last c.trace f).place ∷ []) c.done
-      ∙ ap (λ (u : ℕ). (last c.trace f).rest ++ (u ∷ c.done)) (note_place e (last c.trace f).note);
+      ∙ ap (λ (u : ℕ). (last c.trace f).rest ++ (u ∷ c.done)) (sym (e ∙ (last c.trace f).note));
 }
 
 module _ {nt np : ℕ} {next src dst : List ℕ} (o : Threaded nt np next src dst) {root goal : ℕ} {via : List ℕ} {x : ℕ} (c : Climb nt np src dst root goal via x) where
@@ -105,8 +101,8 @@ module _ {nt np : ℕ} {next src dst : List ℕ} (o : Threaded nt np next src ds
       let w = c.noted.way in
       omega (arith, pigeonhole nt (goal ∷ froms (drawn nt np src dst) w) (trace_in c.noted.trace, froms_tight o.leaves r.walk r.tight) r.simple, length_froms (drawn nt np src dst) w)
 
-  pub climb_place : {r : ℕ} → x ≢ root → r ≡ at via x → (1 ≤ r) × (r - 1 < np)
-  climb_place f e = let q = last c.trace f in (omega (arith, q.note), omega (arith, q.note, q.inside))
+  pub climb_place : {r : ℕ} → x ≢ root → r ≡ at via x → r < np
+  climb_place f e = let q = last c.trace f in omega (arith, q.note, q.inside)
 
   -- As long as the root is not reached there is more,
   pub climb_more : x ≢ root → 1 + length c.done < nt

@@ -30,7 +30,7 @@ module _
   pub fill_left : x ≢ root → (2 ≤ k) × (k ≤ nt)
   fill_left f = climb_left o c.climb c.count f
 
-  pub fill_on : {r y : ℕ} → x ≢ root → r ≡ at via x → y ≡ at src (r - 1) → Fill nt np src dst root goal via before (set ring (k - 1) (r - 1)) y (k - 1) len
+  pub fill_on : {r y : ℕ} → x ≢ root → r ≡ at via x → y ≡ at src r → Fill nt np src dst root goal via before (set ring (k - 1) r) y (k - 1) len
   fill_on {r} {y} f e ey =
       let h = fill_left f in
       record {
@@ -38,15 +38,15 @@ module _
         whole = c.whole;
         count = omega (arith, c.count, h.0);
         slots = slot h.0 h.1;
-        others = λ j i. get_or-set_other ring (k - 1) j (r - 1) 0 (λ b. omega (arith, c.count, c.whole)) ∙ c.others j i;
-        long = length-set ring (k - 1) (r - 1) ∙ c.long;
+        others = λ j i. get_or-set_other ring (k - 1) j r 0 (λ b. omega (arith, c.count, c.whole)) ∙ c.others j i;
+        long = length-set ring (k - 1) r ∙ c.long;
       }
     where
-      slot : 2 ≤ k → k ≤ nt → (j : ℕ) → j < length ((r - 1) ∷ c.climb.done) → at (set ring (k - 1) (r - 1)) (k - 1 + j) ≡ at ((r - 1) ∷ c.climb.done) j
-      slot two room zero h = let a : k - 1 + 0 ≡ k - 1 = omega arith in rw a (get_or-set_same ring (k - 1) (r - 1) 0 (omega (arith, c.long)))
+      slot : 2 ≤ k → k ≤ nt → (j : ℕ) → j < length (r ∷ c.climb.done) → at (set ring (k - 1) r) (k - 1 + j) ≡ at (r ∷ c.climb.done) j
+      slot two room zero h = let a : k - 1 + 0 ≡ k - 1 = omega arith in rw a (get_or-set_same ring (k - 1) r 0 (omega (arith, c.long)))
       slot two room (suc j) h =
           let a : k - 1 + suc j ≡ k + j = omega arith in
-          rw a (get_or-set_other ring (k - 1) (k + j) (r - 1) 0 (λ b. omega arith) ∙ c.slots j (omega arith))
+          rw a (get_or-set_other ring (k - 1) (k + j) r 0 (λ b. omega arith) ∙ c.slots j (omega arith))
 
   -- At the root the first place is written too.
   pub fill_end : {p : ℕ} → root ≡ at dst p → goal ≡ at src p → root ≢ goal → x ≡ root → Written nt np src dst p before len (set ring 0 p)

@@ -6,7 +6,7 @@ use Rattle.circuit.proofs.Climbs.{Climb}
 use Rattle.circuit.proofs.write.count_back.Given as goal
 
 abbrev pub invariant-loop-x : goal.invariant-loop-x
-invariant-loop-x l = (o : Climb l.nt l.np l.src l.dst l.root l.goal l.via l.x) × (l.k ≡ 1 + length o.done)
+invariant-loop-x l = (o : Climb l.w.transitions l.w.places l.w.lists.now.src l.w.lists.now.dst l.root l.goal l.via l.x) × (l.k ≡ 1 + length o.done)
 
 abbrev pub decreases-loop-x : goal.decreases-loop-x
-decreases-loop-x l = l.nt - l.k
+decreases-loop-x l = l.w.transitions - l.k

@@ -3,7 +3,7 @@ use Rattle.circuit.proofs.Fills.{Fill}
 use Rattle.circuit.proofs.write.hand_out.Given as goal
 
 abbrev pub invariant-loop-x : goal.invariant-loop-x
-invariant-loop-x l = Fill l.nt l.np l.src l.dst l.root l.goal l.via l.initial.ring l.ring l.x l.k l.len
+invariant-loop-x l = Fill l.w.transitions l.w.places l.w.lists.now.src l.w.lists.now.dst l.root l.goal l.via l.initial.ring l.ring l.x l.k l.len
 
 abbrev pub decreases-loop-x : goal.decreases-loop-x
 decreases-loop-x l = l.k
