@@ -6,9 +6,7 @@ use Prim.Native.Nat.{◌+◌, ◌<◌, suc, zero, ℕ}
 use native.Mathlib.Decide.{ℕ_discrete}
 use native.Mathlib.Omega.{arith}
 use lib.Dec.{T, eqb, eqb→eq, eqb_refl}
-use Rattle.refusal.specs.Asking.{Ask, Judged, Kept, Lowest, given, sound}
-use Rattle.refusal.specs.declared.Verdict.{Verdict}
-use Rattle.refusal.specs.declared.Verdict.TheVariants.{Accepted, Refused}
+use Rattle.refusal.specs.Asking.{Ask, Judged, Kept, Lowest, given, sound, Verdict}
 use Rattle.refusal.proofs.Asked.{given_here, judged_next, sound_none}
 use Rattle.marked.specs.Net.{Proper}
 use Rattle.marked.proofs.Decide.{le?, lt?, eq?, both?, given?, same?}
@@ -19,6 +17,10 @@ use Rattle.net.specs.Rules.{Alive, Allowed, Linked, Timely, Touched, Transition,
 use Rattle.net.proofs.Shapes.{plan_proper}
 use Rattle.judge.proofs.Ways.{seek}
 use Rattle.judge.proofs.Reaching.{alive?, joined?}
+use Rattle.std.specs.Prelude.{Err, Ok}
+use Rattle.refusal.specs.Numbers.{number_of}
+use Rattle.refusal.specs.declared.Reason.{Reason}
+use Rattle.refusal.specs.declared.Reason.TheVariants.{Apart, Dead, Edge, Loose, Time}
 
 -- Limits.
 abbrev pub within? : (low high n : ℕ) → Dec (Within low high n)
@@ -80,9 +82,9 @@ abbrev pub Verdicts : List Ask → Type 0
 Verdicts rows = (v : Verdict) × Judged rows v
 
 -- A row that has been searched, and what follows it where it is kept.
-abbrev pub asks : (a : Ask) (rows : List Ask) → Searched a → (Kept a → Verdicts rows) → Verdicts (a ∷ rows)
-asks a rows (inl h) rest = ((rest h).0, judged_next h (rest h).1)
-asks a rows (inr s) rest = (Refused (record { number = a.number; place = s.0 }), given (given_here (record { number = a.number; place = s.0 }) refl s.1))
+abbrev pub asks : (a : Ask) (k : Reason) → a.number ≡ number_of k → (rows : List Ask) → Searched a → (Kept a → Verdicts rows) → Verdicts (a ∷ rows)
+asks a k e rows (inl h) rest = ((rest h).0, judged_next h (rest h).1)
+asks a k e rows (inr s) rest = (Err (record { reason = k; place = s.0 }), given (given_here (record { reason = k; place = s.0 }) e s.1))
 
 module _ (p : Plan) where
   abbrev late : Searched (row5 p)
@@ -114,8 +116,8 @@ module _ (p : Plan) where
   -- The verdict, computed.
   abbrev pub graph_verdict : Verdicts (graph_rows p)
   graph_verdict =
-      asks (row5 p) (row6 p ∷ row7 p ∷ row8 p ∷ row9 p ∷ []) late (λ k5.
-      asks (row6 p) (row7 p ∷ row8 p ∷ row9 p ∷ []) wrong (λ k6.
-      asks (row7 p) (row8 p ∷ row9 p ∷ []) bare (λ k7.
-      asks (row8 p) (row9 p ∷ []) (apart k6) (λ k8.
-      asks (row9 p) [] (dead k6) (λ k9. (Accepted, sound sound_none))))))
+      asks (row5 p) Time refl (row6 p ∷ row7 p ∷ row8 p ∷ row9 p ∷ []) late (λ k5.
+      asks (row6 p) Edge refl (row7 p ∷ row8 p ∷ row9 p ∷ []) wrong (λ k6.
+      asks (row7 p) Loose refl (row8 p ∷ row9 p ∷ []) bare (λ k7.
+      asks (row8 p) Apart refl (row9 p ∷ []) (apart k6) (λ k8.
+      asks (row9 p) Dead refl [] (dead k6) (λ k9. (Ok tt, sound sound_none))))))

@@ -1,2 +1,2 @@
 -- Words between functions beneath the calls; no promise needs them.
-pub mod Rest
+pub mod Told

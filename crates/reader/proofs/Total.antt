@@ -6,9 +6,7 @@ use native.Mathlib.Omega.{arith}
 use lib.Dec.{ltb}
 use lib.ListN.{length, get_or, get_or-eq_default}
 use borrow.Author.Tests.{lt-ltb, le-ltb}
-use Rattle.refusal.specs.Asking.{Judged, given, sound}
-use Rattle.refusal.specs.declared.Verdict.{Verdict}
-use Rattle.refusal.specs.declared.Verdict.TheVariants.{Accepted, Refused}
+use Rattle.refusal.specs.Asking.{Judged, given, sound, Verdict}
 use Rattle.refusal.proofs.Asked.{given_first, judged_after, sound_parts}
 use Rattle.marked.proofs.Decide.{lt?}
 use Rattle.net.specs.Limits.{most_edges, most_operations}
@@ -20,11 +18,13 @@ use Rattle.file.specs.Frame.{CountsKept, Framed, Laid, Signed, Sized, frame_rows
 use Rattle.file.proofs.Order.{framed_sound, refused_1, refused_2, refused_3, refused_4, sound_framed}
 use Rattle.judge.proofs.Deciding.{Verdicts, graph_verdict}
 use Rattle.reader_tables.specs.Filled.{Filled}
-use Rattle.reader.specs.Reply.{Shows, Beside, LookReply}
+use Rattle.reader.specs.Reply.{LookReply, Shows, declined, looked}
 use Rattle.reader.specs.declared.graph.Graph.{Graph}
-use Rattle.reader.specs.declared.graph.Look.{Look}
 use Rattle.reader.proofs.Determined.{look_determined}
 use Rattle.reader.proofs.Framing.{counted?, laid?, signed?, sized?}
+use Rattle.std.specs.Prelude.{Err, Ok, Result}
+use Rattle.refusal.specs.declared.Reason.TheVariants.{Counts, Length, Tables, Trailer}
+use Rattle.refusal.specs.declared.Refusal.{Refusal}
 
 -- Rows 1 to 4, then the graph's.
 module _ (f : List ℕ) where
@@ -32,19 +32,19 @@ module _ (f : List ℕ) where
   at_4 s g c (yes l) =
       let w : Framed f = record { sized = s; signed = g; counted = c; laid = l } in
       ((graph_verdict (plan_of f)).0, judged_after (frame_rows f) (graph_rows (plan_of f)) (framed_sound w) (graph_verdict (plan_of f)).1)
-  at_4 s g c (no n) = (Refused (record { number = 4; place = 0 }), given (given_first (frame_rows f) (graph_rows (plan_of f)) (refused_4 f s g c n)))
+  at_4 s g c (no n) = (Err (record { reason = Tables; place = 0 }), given (given_first (frame_rows f) (graph_rows (plan_of f)) (refused_4 f s g c n)))
 
   abbrev at_3 : Sized f → Signed f → Dec (CountsKept f) → Verdicts (look_rows f)
   at_3 s g (yes c) = at_4 s g c (laid? f)
-  at_3 s g (no n) = (Refused (record { number = 3; place = 0 }), given (given_first (frame_rows f) (graph_rows (plan_of f)) (refused_3 f s g n)))
+  at_3 s g (no n) = (Err (record { reason = Counts; place = 0 }), given (given_first (frame_rows f) (graph_rows (plan_of f)) (refused_3 f s g n)))
 
   abbrev at_2 : Sized f → Dec (Signed f) → Verdicts (look_rows f)
   at_2 s (yes g) = at_3 s g (counted? f)
-  at_2 s (no n) = (Refused (record { number = 2; place = 0 }), given (given_first (frame_rows f) (graph_rows (plan_of f)) (refused_2 f s n)))
+  at_2 s (no n) = (Err (record { reason = Trailer; place = 0 }), given (given_first (frame_rows f) (graph_rows (plan_of f)) (refused_2 f s n)))
 
   abbrev at_1 : Dec (Sized f) → Verdicts (look_rows f)
   at_1 (yes s) = at_2 s (signed? f)
-  at_1 (no n) = (Refused (record { number = 1; place = 0 }), given (given_first (frame_rows f) (graph_rows (plan_of f)) (refused_1 f n)))
+  at_1 (no n) = (Err (record { reason = Length; place = 0 }), given (given_first (frame_rows f) (graph_rows (plan_of f)) (refused_1 f n)))
 
   abbrev verdicts : Verdicts (look_rows f)
   verdicts = at_1 (sized? f)
@@ -103,24 +103,25 @@ shows_graph p n e a b =
       buffers = filled_fill most_edges e p.buffers b;
     }
 
-abbrev besides : List ℕ → Verdict → Graph
-besides f Accepted = graph_of (plan_of f) (operations_of f) (edges_of f)
-besides f (Refused r) = graph_of (plan_of f) 0 0
+-- The reply to a file whose rows are all kept, and to one that is refused.
+abbrev reply : (f : List ℕ) → Verdicts (look_rows f) → Result Graph Refusal
+reply f (Ok tt, h) = Ok (graph_of (plan_of f) (operations_of f) (edges_of f))
+reply f (Err r, h) = Err r
 
-beside_graph : (f : List ℕ) (v : Verdict) → Judged (look_rows f) v → Beside f v (besides f v)
-beside_graph f Accepted (sound h) =
+replied : (f : List ℕ) (v : Verdict) (h : Judged (look_rows f) v) → LookReply f (reply f (v, h))
+replied f (Ok tt) (sound h) =
     let c = (sound_framed (sound_parts (frame_rows f) (graph_rows (plan_of f)) h).0).counted in
-    shows_graph (plan_of f) (operations_of f) (edges_of f) c.operations.high_met c.edges.high_met
-beside_graph f (Refused r) h = shows_graph (plan_of f) 0 0 (omega arith) (omega arith)
+    looked h (shows_graph (plan_of f) (operations_of f) (edges_of f) c.operations.high_met c.edges.high_met)
+replied f (Err r) (given h) = declined h
 
 -- The reply, computed.
-unfoldable pub look_of : List ℕ → Look
-look_of f = record { verdict = (verdicts f).0; graph = besides f (verdicts f).0 }
+unfoldable pub look_of : List ℕ → Result Graph Refusal
+look_of f = reply f (verdicts f)
 
 pub look_total : (f : List ℕ) → LookReply f (look_of f)
 unfolding look_of
-look_total f = record { judged = (verdicts f).1; beside = beside_graph f (verdicts f).0 (verdicts f).1 }
+look_total f = replied f (verdicts f).0 (verdicts f).1
 
 -- And no other reply is allowed.
-pub look_only : (f : List ℕ) (r : Look) → LookReply f r → r ≡ look_of f
+pub look_only : (f : List ℕ) (r : Result Graph Refusal) → LookReply f r → r ≡ look_of f
 look_only f r h = look_determined f r (look_of f) h (look_total f)

@@ -1,14 +1,16 @@
-// A graph as the reader hands it out, its limits, and how it is made from the bytes of a file.
-ghost use Rattle.std.specs.Prelude.{List, ℕ};
-ghost use Rattle.refusal.specs.Asking.{Given};
-ghost use Rattle.file.specs.Frame.{look_rows};
-ghost use Rattle.reader.specs.Reply.{LookReply};
+// A graph as the reader hands it out, its limits, how it is made from the bytes of a file, and how it is lent.
+ghost use Rattle.std.specs.Prelude.{◌≡◌};
+ghost use Rattle.net.specs.Good.{Good};
+ghost use Rattle.net.specs.helpers.Tables.{IsGood, plan_of_accepted};
+ghost use Rattle.reader.specs.Reply.{LookReply, shown};
 
-use crate::read::{blank, read};
+use crate::read::read;
 use file::frame::framed;
 use file_trailer::numbers;
 use judge::judge;
-use refusal::{Refusal, Verdict};
+use net::rows::{Accepted, Plotted, Rows};
+use net::wiring::Wiring;
+use refusal::Refusal;
 
 // A graph as its file has it; unused entries are 0.
 #[derive(Clone, Copy)]
@@ -20,22 +22,6 @@ pub struct Graph {
     pub to: [u8; Graph::EDGES],
     pub mark: [u8; Graph::EDGES],
     pub buffers: [u8; Graph::EDGES],
-}
-
-// The graph is all zero where the file is refused.
-#[derive(Clone, Copy)]
-pub struct Look {
-    pub verdict: Verdict,
-    pub graph: Graph,
-}
-
-// The reply to a file that is refused.
-fn refused(refusal: Refusal) -> Look
-    ensures { (f : List ℕ) → Given (look_rows f) refusal → LookReply f result }
-{
-    let verdict = Verdict::Refused(refusal);
-    let graph = blank();
-    Look { verdict, graph }
 }
 
 impl Graph {
@@ -59,28 +45,43 @@ impl Graph {
     pub const LENGTH: usize = file::LENGTH;
 
     // The graph of a file, where every row of the refusal table is kept.
-    pub fn from_file(file: &[u8]) -> Look
+    pub fn from_file(file: &[u8]) -> Result<Graph, Refusal>
         ensures { LookReply file.now result }
     {
-        if let Verdict::Refused(refusal) = framed(file) {
-            return refused(refusal);
-        }
+        framed(file)?;
         let g = read(file, numbers(file));
-        let verdict = judge(
-            g.operations,
-            g.edges,
-            &g.times,
-            &g.from,
-            &g.to,
-            &g.mark,
-            &g.buffers,
-        );
-        if let Verdict::Refused(refusal) = verdict {
-            return refused(refusal);
-        }
-        Look {
-            verdict: Verdict::Accepted,
-            graph: g,
+        judge(&Rows {
+            operations: g.operations,
+            edges: g.edges,
+            times: &g.times,
+            from: &g.from,
+            to: &g.to,
+            mark: &g.mark,
+            buffers: &g.buffers,
+        })?;
+        Ok(g)
+    }
+
+    // The graph lent to a call, once it is accepted.
+    pub fn lend(&self) -> Accepted<'_>
+        requires { Good self.now.operations self.now.edges self.now.times self.now.from self.now.to self.now.mark self.now.buffers }
+        ensures plan { plan_of_accepted result ≡ shown self.now }
+        ensures good { IsGood result }
+    {
+        let wiring = Wiring {
+            operations: self.operations,
+            edges: self.edges,
+            from: &self.from,
+            to: &self.to,
+        };
+        let plotted = Plotted {
+            wiring,
+            mark: &self.mark,
+        };
+        Accepted {
+            plotted,
+            times: &self.times,
+            buffers: &self.buffers,
         }
     }
 }

@@ -1,5 +1,4 @@
-// The graph of a file whose frame is right, and the graph of a file that is refused.
-ghost use Rattle.net.specs.Plan.{Plan};
+// The graph of a file whose frame is right.
 ghost use Rattle.file_trailer.specs.File.{edges_of, operations_of, plan_of};
 ghost use Rattle.reader.specs.Reply.{Shows};
 ghost use Rattle.file.specs.helpers.Opened.{Opened};
@@ -28,20 +27,5 @@ pub fn read(file: &[u8], t: Trailer) -> Graph
         to,
         mark,
         buffers,
-    }
-}
-
-// All zero.
-pub fn blank() -> Graph
-    ensures { (p : Plan) → Shows p 0 0 result }
-{
-    Graph {
-        operations: 0,
-        edges: 0,
-        times: [0; Graph::OPERATIONS],
-        from: [0; Graph::EDGES],
-        to: [0; Graph::EDGES],
-        mark: [0; Graph::EDGES],
-        buffers: [0; Graph::EDGES],
     }
 }

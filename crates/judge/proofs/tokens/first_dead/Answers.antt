@@ -5,4 +5,5 @@ use Rattle.judge.proofs.tokens.first_dead.Goals as goal
 
 pub returns : goal.returns
 returns c =
-    finds_first c.args.n c.args.e c.args.from.now c.args.to.now c.args.mark.now _ (λ p l. c.start_marking.ensures.filled p (omega arith) l) c.first_dead.ensures
+    let g = c.args.g.now.wiring in
+    finds_first g.operations g.edges g.from.now g.to.now c.args.g.now.mark.now _ (λ p l. c.start_marking.ensures.filled p (omega arith) l) c.first_dead.ensures

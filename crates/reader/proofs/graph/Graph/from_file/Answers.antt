@@ -1,31 +1,24 @@
--- A frame that is wrong gives its refusal; else the verdict on the graph that is read is the file's.
-use mathlib.Core.Path.{◌≡◌, subst}
-use mathlib.Core.List.{List}
-use Prim.Native.Nat.{ℕ}
-use Rattle.refusal.specs.Asking.{Judged}
-use Rattle.refusal.specs.declared.Verdict.{Verdict}
-use Rattle.refusal.specs.declared.Verdict.TheVariants.{Accepted}
-use Rattle.refusal.proofs.Asked.{judged_given, judged_sound}
+-- A frame that is wrong gives its refusal; else what is judged of the graph that is read is judged of the file.
+use Rattle.std.proofs.lemmas.Result.{err_from_is_err_and}
+use Rattle.refusal.proofs.Asked.{given_first, judged_given, judged_sound}
 use Rattle.net.specs.Rules.{graph_rows}
-use Rattle.file_trailer.specs.File.{edges_of, operations_of, plan_of}
-use Rattle.file.specs.Frame.{frame_rows, look_rows}
+use Rattle.file_trailer.specs.File.{plan_of}
+use Rattle.file.specs.Frame.{frame_rows}
 use Rattle.file.proofs.Order.{sound_framed}
-use Rattle.reader.specs.Reply.{Shows, shown}
-use Rattle.reader.specs.declared.graph.Graph.{Graph}
+use Rattle.reader.specs.Reply.{declined, looked}
 use Rattle.reader.proofs.Accepting.{judged_shown}
 use Rattle.reader.proofs.graph.Graph.from_file.Goals as goal
 
--- What is judged of the graph that was read is judged of the file, once its frame is accepted.
-judged_read : (f : List ℕ) {g : Graph} {a v w : Verdict} → a ≡ Accepted → Judged (frame_rows f) a → Shows (plan_of f) (operations_of f) (edges_of f) g
-    → v ≡ w → Judged (graph_rows (shown g)) v → Judged (look_rows f) w
-judged_read f {g} e framed shows d judged =
-    judged_shown f (sound_framed (judged_sound (rw e at framed))) shows (subst (λ (x : Verdict). Judged (graph_rows (shown g)) x) d judged)
+pub returns-in_err-framed : goal.returns-in_err-framed
+returns-in_err-framed c =
+    let p = err_from_is_err_and c.from_residual.result c.from_residual.ensures.1 in
+    let f = c.args.file.now in
+    rw (p.1, p.2) (declined (given_first (frame_rows f) (graph_rows (plan_of f)) (judged_given c.in_err-framed.ensures)))
 
-pub returns-in-Refused-verdict : goal.returns-in-Refused-verdict
-returns-in-Refused-verdict c =
-    c.refused-in-Refused-verdict.ensures _
-    (judged_given (judged_read _ c.in_default.is c.framed.ensures c.read-g.ensures c.in-Refused-verdict.is c.judge-verdict.ensures))
+pub returns-in_err-judge : goal.returns-in_err-judge
+returns-in_err-judge c =
+    let p = err_from_is_err_and c.from_residual-in_err-judge.result c.from_residual-in_err-judge.ensures.1 in
+    rw (p.1, p.2) (declined (judged_given (judged_shown _ (sound_framed (judged_sound c.in_ok-framed.ensures)) c.read-g.ensures c.in_err-judge.ensures)))
 
 pub returns : goal.returns
-returns c =
-    record { judged = judged_read _ c.in_default.is c.framed.ensures c.read-g.ensures c.in_default-verdict.is c.judge-verdict.ensures; beside = c.read-g.ensures }
+returns c = looked (judged_sound (judged_shown _ (sound_framed (judged_sound c.in_ok-framed.ensures)) c.read-g.ensures c.in_ok-judge.ensures)) c.read-g.ensures

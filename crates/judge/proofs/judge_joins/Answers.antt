@@ -1,9 +1,0 @@
--- Every node is joined to the source, and the next row is asked; or the lowest that is not.
-use Rattle.judge.proofs.Asking.{asked_at, asked_none}
-use Rattle.judge.proofs.judge_joins.Goals as goal
-
-pub returns-in-At : goal.returns-in-At
-returns-in-At c = asked_at c.in-At.is c.first_apart.ensures c.refuse.ensures
-
-pub returns : goal.returns
-returns c = asked_none c.in_default.is c.first_apart.ensures c.judge_tokens.ensures
