@@ -1,5 +1,4 @@
-// What `bounds` replies.
-use refusal::Refusal;
+// What `bounds` measures.
 
 // TBO is numerator / denominator in lowest terms; length is how many places its circuit has.
 #[derive(Clone, Copy)]
@@ -10,10 +9,4 @@ pub struct Measures {
     pub tt: u32,
     pub tce: u32,
     pub length: usize,
-}
-
-#[derive(Clone, Copy)]
-pub enum Bounds {
-    Bounded(Measures),
-    Refused(Refusal),
 }

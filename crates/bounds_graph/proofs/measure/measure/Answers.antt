@@ -3,13 +3,11 @@ use Rattle.bounds_graph.proofs.Lending.{bounds_of, lent_live, lent_weighted}
 use mathlib.Core.Path.{refl}
 use Rattle.bounds_graph.proofs.measure.measure.Goals as goal
 
-pub largest-most-requires : goal.largest-most-requires
-largest-most-requires c =
-    record { weighted = lent_weighted c.requires.good c.requires.holds_start c.transition_times.ensures; live = lent_live c.requires.good c.requires.holds_start c.transition_times.ensures }
+pub invariant_of-load : goal.invariant_of-load
+invariant_of-load c = record { weighted = lent_weighted c.requires.good c.requires.holds_start c.transition_times.ensures }
 
-pub choose-length-requires : goal.choose-length-requires
-choose-length-requires c =
-    record { weighted = lent_weighted c.requires.good c.requires.holds_start c.transition_times.ensures; largest_by = c.largest-most.ensures; n_in_bounds = c.requires.n_in_bounds }
+pub largest-most-requires : goal.largest-most-requires
+largest-most-requires c = record { live = lent_live c.requires.good c.requires.holds_start c.transition_times.ensures }
 
 pub returns : goal.returns
 returns c =
@@ -20,7 +18,7 @@ returns c =
     c.largest-most.ensures
     c.choose-length.ensures
     c.path_sums-sums.ensures
-    c.reduce-tbo.ensures
+    c.reduced-tbo.ensures
     refl
     refl
     refl
