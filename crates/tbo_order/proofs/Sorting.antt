@@ -110,19 +110,6 @@ sort_end {n} {e} {left} {ord} {l} {c} s z = record { items = λ j k. s.puts j (o
 pub listed_item : (n e i : ℕ) {r : Item} → i < n + e → ItemAt e i r → ItemOf n e r
 listed_item n e i h o = elim (dec_lt i e) [ yes k ↦ rw (o.edge k) k | no k ↦ rw (o.operation (omega arith)) (omega arith) ]
 
-module _ {n e i : ℕ} {x : Item} {left : List Item} (o : Enlisted n e i left) where
-  pub enlist_on : i < 168 → ItemAt e i x → Enlisted n e (i + 1) (set left i x)
-  enlist_on h k = record {
-    each = λ j l. elim (ℕ_discrete j i) [
-      | yes z ↦ subst (λ (y : ℕ). ItemAt e y (item (set left i x) y)) (sym z) (subst (ItemAt e i) (sym (get_or-set_same left i x (Edge 0) (omega (arith, o.long)))) k)
-      | no z ↦ subst (ItemAt e j) (sym (get_or-set_other left i j x (Edge 0) z)) (o.each j (omega arith))
-    ];
-    long = length-set left i x ∙ o.long;
-  }
-
-pub enlist_none : {n e : ℕ} {left : List Item} → length left ≡ 168 → Enlisted n e 0 left
-enlist_none l = record { each = λ j h. absurd (omega arith); long = l }
-
 -- The passes begin with all items left.
 pub sort_start : {n e : ℕ} {left ord : List Item} → Enlisted n e (n + e) left → length ord ≡ 168 → Sorting n e left ord 0 (n + e) 0 0
 sort_start {n} {e} {left} {ord} o l = record {

@@ -12,9 +12,6 @@ use Rattle.tbo_sweep.proofs.sweep.Goals as goal
 pub loop-x-init : goal.loop-x-init
 loop-x-init c = swepts_none (λ p h. absurd (omega (arith, h.1)))
 
-pub overflow_add-x-items : goal.overflow_add-x-items
-overflow_add-x-items c = omega (arith, c.args.g.now.wiring.wired.operations, c.args.g.now.wiring.wired.edges)
-
 pub raise_item-risen-requires : goal.raise_item-risen-requires
 raise_item-risen-requires c =
     let here = handed c.args.ord.now _ _ c.loop-x-test.true in

@@ -1,11 +1,8 @@
 -- The item is put in order, or kept.
 use mathlib.Core.Path.{refl, sym, ◌∙◌}
 use mathlib.Core.Bool.{true≢false}
-use Rattle.tbo_order.proofs.Sorting.{sort_item, sort_kept, sort_put}
+use Rattle.tbo_order.proofs.Sorting.{sort_kept, sort_put}
 use Rattle.tbo_order.proofs.Queue.take.Goals as goal
-
-pub way-s-requires : goal.way-s-requires
-way-s-requires c = sort_item c.requires.sorting c.args.g.now.wired c.requires.i_lt_count
 
 pub returns-then-ready-clause-took : goal.returns-then-ready-clause-took
 returns-then-ready-clause-took c =
