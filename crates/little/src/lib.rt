@@ -2,14 +2,7 @@
 #![tactic(auto, unfolding(crate::specs::Little::quad, crate::specs::Little::word))]
 
 ghost use Rattle.std.specs.Prelude.{◌≡◌, ◌+◌, ◌<◌, length};
-ghost use Rattle.little.specs.Little.{byte_at, word, quad};
-
-pub fn byte(s: &[u8], at: usize) -> u8
-    requires { at < length s.now }
-    ensures { result ≡ byte_at s.now at }
-{
-    s[at]
-}
+ghost use Rattle.little.specs.Little.{word, quad};
 
 // Two bytes, the low one first.
 pub fn word(s: &[u8], at: usize) -> u16

@@ -10,6 +10,7 @@ use file_trailer::numbers;
 use judge::judge;
 use net::rows::{Accepted, Plotted, Rows};
 use net::wiring::Wiring;
+use reader_tables::Tables;
 use refusal::Refusal;
 
 // A graph as its file has it; unused entries are 0.
@@ -49,7 +50,10 @@ impl Graph {
         ensures { LookReply file.now result }
     {
         framed(file)?;
-        let g = read(file, numbers(file));
+        let g = read(&Tables {
+            file,
+            trailer: numbers(file),
+        });
         judge(&Rows {
             operations: g.operations,
             edges: g.edges,

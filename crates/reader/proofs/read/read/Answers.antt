@@ -1,7 +1,7 @@
--- The four arrays begin with every entry 0, as the edge table asks.
+-- The four arrays begin with every entry 0, as the filling asks.
 use Rattle.net.specs.Limits.{most_edges}
 use Rattle.reader_tables.proofs.Filling.{filled_none}
 use Rattle.reader.proofs.read.read.Goals as goal
 
-pub edge_table-requires-clause-tabled : goal.edge_table-requires-clause-tabled
-edge_table-requires-clause-tabled c = let row = filled_none most_edges in record { from = row _; to = row _; mark = row _; buffers = row _ }
+pub fill_edges-requires : goal.fill_edges-requires
+fill_edges-requires c = let row = filled_none most_edges in record { from = row _; to = row _; mark = row _; buffers = row _ }

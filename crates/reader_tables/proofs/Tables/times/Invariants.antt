@@ -2,7 +2,7 @@
 use Prim.Native.Nat.{◌+◌}
 use Rattle.reader_tables.specs.Filled.{Filled}
 use Rattle.file_trailer.specs.File.{operation_time}
-use Rattle.reader_tables.proofs.operations.times.Given as goal
+use Rattle.reader_tables.proofs.Tables.times.Given as goal
 
 abbrev pub invariant-loop-i : goal.invariant-loop-i
-invariant-loop-i l = Filled l.i 40 (λ y. operation_time l.file (y + 1)) l.xs
+invariant-loop-i l = Filled l.i 40 (λ y. operation_time l.self.file.now (y + 1)) l.xs

@@ -1,2 +1,0 @@
--- Words between functions beneath the calls; no promise needs them.
-pub mod Opened
