@@ -6,8 +6,8 @@ use twin::{EDGES, OPERATIONS, PLACES, TRANSITIONS, timed};
 
 #[link(name = "bench_inner", kind = "static")]
 extern "C" {
-    fn bench_start_marking(n: usize, e: usize, mark: &[u8; EDGES], out: *mut u8, places: usize);
-    fn bench_transition_times(n: usize, times: &[u32; OPERATIONS], out: &mut [u32; TRANSITIONS]);
+    fn bench_start_marking(n: usize, e: usize, from: &[u8; EDGES], to: &[u8; EDGES], mark: &[u8; EDGES], out: *mut u8, places: usize);
+    fn bench_transition_times(n: usize, e: usize, times: &[u32; OPERATIONS], from: &[u8; EDGES], to: &[u8; EDGES], mark: &[u8; EDGES], out: &mut [u32; TRANSITIONS]);
     fn bench_largest(n: usize, e: usize, from: &[u8; EDGES], to: &[u8; EDGES], marking: &[u8; PLACES], times: &[u32; TRANSITIONS], d: &mut [u64; TRANSITIONS], ratio: &mut [u64; 2]);
     fn bench_reduce(a: u64, b: u64, ratio: &mut [u64; 2]);
     fn bench_choose(n: usize, e: usize, from: &[u8; EDGES], to: &[u8; EDGES], marking: &[u8; PLACES], times: &[u32; TRANSITIONS], a: u64, b: u64, d: &[u64; TRANSITIONS], ring: *mut u16, entries: usize) -> usize;
@@ -18,9 +18,9 @@ fn main() {
     let mut ring = [0; TRANSITIONS];
     timed(|g, both| unsafe {
         let mut marking = [0; PLACES];
-        bench_start_marking(g.n, g.e, &g.mark, marking.as_mut_ptr(), PLACES);
+        bench_start_marking(g.n, g.e, &g.from, &g.to, &g.mark, marking.as_mut_ptr(), PLACES);
         let mut times = [0; TRANSITIONS];
-        bench_transition_times(g.n, &g.times, &mut times);
+        bench_transition_times(g.n, g.e, &g.times, &g.from, &g.to, &g.mark, &mut times);
         let mut q = [0; 2];
         bench_largest(g.n, g.e, &g.from, &g.to, &marking, &times, &mut d, &mut q);
         let mut l = [0; 2];
