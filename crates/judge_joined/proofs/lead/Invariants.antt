@@ -3,4 +3,4 @@ use Rattle.judge_joined.specs.helpers.Spreading.{Led}
 use Rattle.judge_joined.proofs.lead.Given as goal
 
 abbrev pub invariant-loop-k : goal.invariant-loop-k
-invariant-loop-k l = Led l.e l.from l.to l.initial.seen l.seen
+invariant-loop-k l = Led l.g.edges l.g.from.now l.g.to.now l.initial.seen l.seen

@@ -3,8 +3,8 @@ use Rattle.judge_joined.proofs.Reaching.{marked_all, reached_start}
 use Rattle.judge_joined.proofs.reach.Goals.{else-pass-via-then-pass+else-pass-2, else-pass-via-else-pass}
 use Rattle.judge_joined.proofs.reach.Goals as goal
 
-pub pass-requires-clause-reached : goal.pass-requires-clause-reached
-pass-requires-clause-reached c = reached_start
+pub pass-requires : goal.pass-requires
+pass-requires c = reached_start
 
 pub returns-after-loop : goal.returns-after-loop
 returns-after-loop c = marked_all c.loop-test.false c.pass-in-loop.ensures

@@ -3,7 +3,7 @@ use Rattle.judge_joined.specs.helpers.Spreading.{Reached, missing}
 use Rattle.judge_joined.proofs.reach.Given as goal
 
 abbrev pub invariant-loop : goal.invariant-loop
-invariant-loop l = Reached l.e l.from l.to l.seen
+invariant-loop l = Reached l.g.edges l.g.from.now l.g.to.now l.seen
 
 abbrev pub decreases-loop : goal.decreases-loop
 decreases-loop l = missing l.seen
