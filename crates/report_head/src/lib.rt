@@ -1,37 +1,39 @@
-// The lines before the waits, over plain values: one function a line, each written behind the last.
+// The lines before the waits: one function a line, each written behind the last.
 #![tactic(auto, using(pen::proofs::Wrote::writing), unfolding(report_text::specs::Text::ring_places, report_text::specs::Text::ops_line, report_text::specs::Text::bound_lines, report_text::specs::Text::circuit_line, report_text::specs::Text::head_text))]
 
 ghost use Rattle.pen.specs.Wrote.{HasRoomFor, Wrote};
 ghost use Rattle.report_text.specs.Text.{ops_line, bound_lines, ring_places, circuit_line, head_text};
-ghost use Rattle.report_text.specs.helpers.Limits.{CountsFit};
 
+use bounds_graph::reply::Measures;
+use net::wiring::Wiring;
 use pen::Writer;
 
 // The four counts, as `ops 1 edges 2 transitions 5 places 7`.
-fn ops_line(w: &mut Writer, n: usize, e: usize)
-    requires counts_fit { CountsFit n e }
-    requires has_room { HasRoomFor w.old (ops_line n e) }
-    ensures { Wrote w.old (ops_line n e) w.new }
+fn ops_line(w: &mut Writer, g: &Wiring)
+    requires { HasRoomFor w.old (ops_line g.now.operations g.now.edges) }
+    ensures { Wrote w.old (ops_line g.now.operations g.now.edges) w.new }
 {
-    w.item(b"ops ", n as u64);
-    w.item(b" edges ", e as u64);
+    w.item(b"ops ", g.operations as u64);
+    w.item(b" edges ", g.edges as u64);
     w.pair_line(
         b" transitions ",
-        (3 * n + 2) as u64,
+        g.transitions() as u64,
         b" places ",
-        (3 * n + 2 * e) as u64,
+        g.places() as u64,
     );
 }
 
-// The bounds, as `TBO 15/2`, `TBIO 5`, `TT 10`, `TCE 15`; `total` is TT.
-fn bound_lines(w: &mut Writer, a: u64, b: u64, tbio: u32, total: u32, tce: u32)
-    requires { HasRoomFor w.old (bound_lines a b tbio total tce) }
-    ensures { Wrote w.old (bound_lines a b tbio total tce) w.new }
+// The bounds, as `TBO 15/2`, `TBIO 5`, `TT 10`, `TCE 15`.
+fn bound_lines(w: &mut Writer, found: &Measures)
+    requires { HasRoomFor w.old
+        (bound_lines found.now.numerator found.now.denominator found.now.tbio found.now.tt found.now.tce) }
+    ensures { Wrote w.old
+        (bound_lines found.now.numerator found.now.denominator found.now.tbio found.now.tt found.now.tce) w.new }
 {
-    w.pair_line(b"TBO ", a, b"/", b);
-    w.item_line(b"TBIO ", u64::from(tbio));
-    w.item_line(b"TT ", u64::from(total));
-    w.item_line(b"TCE ", u64::from(tce));
+    w.pair_line(b"TBO ", found.numerator, b"/", found.denominator);
+    w.item_line(b"TBIO ", u64::from(found.tbio));
+    w.item_line(b"TT ", u64::from(found.tt));
+    w.item_line(b"TCE ", u64::from(found.tce));
 }
 
 // All places of the circuit, each behind a blank.
@@ -55,22 +57,13 @@ fn circuit_line(w: &mut Writer, ring: &[u16])
 }
 
 // All lines before the waits.
-pub fn head_lines(
-    w: &mut Writer,
-    n: usize,
-    e: usize,
-    a: u64,
-    b: u64,
-    tbio: u32,
-    total: u32,
-    tce: u32,
-    ring: &[u16],
-)
-    requires counts_fit { CountsFit n e }
-    requires has_room { HasRoomFor w.old (head_text n e a b tbio total tce ring.now) }
-    ensures { Wrote w.old (head_text n e a b tbio total tce ring.now) w.new }
+pub fn head_lines(w: &mut Writer, g: &Wiring, found: &Measures, ring: &[u16])
+    requires { HasRoomFor w.old (head_text g.now.operations g.now.edges
+        found.now.numerator found.now.denominator found.now.tbio found.now.tt found.now.tce ring.now) }
+    ensures { Wrote w.old (head_text g.now.operations g.now.edges
+        found.now.numerator found.now.denominator found.now.tbio found.now.tt found.now.tce ring.now) w.new }
 {
-    ops_line(w, n, e);
-    bound_lines(w, a, b, tbio, total, tce);
+    ops_line(w, g);
+    bound_lines(w, found);
     circuit_line(w, ring);
 }

@@ -6,16 +6,16 @@ use Rattle.report_text.specs.Text.{report_text}
 use Rattle.report_text.proofs.FitLaws.{writable_fits}
 use Rattle.report_lines.proofs.write_report.Goals as goal
 
-pub head_lines-requires-clause-has_room : goal.head_lines-requires-clause-has_room
+pub head_lines-requires : goal.head_lines-requires
 unfolding report_text
-head_lines-requires-clause-has_room c =
-    first_room _ (writable_fits c.requires _ _ _ c.ranges.tbio.fits c.ranges.total.fits c.ranges.tce.fits (λ i. (c.type_inv.ring i).fits) (λ t. (c.type_inv.waits t).fits))
+head_lines-requires c =
+    first_room _ (writable_fits c.requires _ _ _ (search rules) (search rules) (search rules) (λ i. (c.type_inv.ring i).fits) (λ t. (c.type_inv.waits t).fits))
 
 pub wait_lines-requires-clause-has_room : goal.wait_lines-requires-clause-has_room
 unfolding report_text
 wait_lines-requires-clause-has_room c =
     room_next c.head_lines.ensures
-    (writable_fits c.requires _ _ _ c.ranges.tbio.fits c.ranges.total.fits c.ranges.tce.fits (λ i. (c.type_inv.ring i).fits) (λ t. (c.type_inv.waits t).fits))
+    (writable_fits c.requires _ _ _ (search rules) (search rules) (search rules) (λ i. (c.type_inv.ring i).fits) (λ t. (c.type_inv.waits t).fits))
 
 pub returns : goal.returns
 unfolding report_text

@@ -10,8 +10,8 @@ measure-found-requires-clause-holds_start c = started_holds c.start_marking.ensu
 pub slice_bounds-ring-end : goal.slice_bounds-ring-end
 slice_bounds-ring-end c = ring_within c.requires.good c.measure-found.ensures
 
-pub slice_bounds-write_report-end : goal.slice_bounds-write_report-end
-slice_bounds-write_report-end c = ring_count c.requires.good c.measure-found.ensures
+pub slice_bounds-circuit-end : goal.slice_bounds-circuit-end
+slice_bounds-circuit-end c = ring_count c.requires.good c.measure-found.ensures
 
 pub write_report-requires : goal.write_report-requires
 write_report-requires c = ring_writable c.requires.good c.measure-found.ensures c.requires.report_bytes_in_bounds (omega (arith, c.requires.good.wired.operations, c.every_wait.ensures.long))

@@ -8,11 +8,10 @@ loop-t-init c = summing_none _
 
 pub wait_sum-requires : goal.wait_sum-requires
 wait_sum-requires c =
-    record { wired = c.requires.wired; joined = c.requires.joined; long = omega (arith, c.requires.wired.operations, c.requires.wired.edges); transition = omega arith }
+    record { joined = c.requires.joined; long = omega (arith, c.args.g.now.wired.operations, c.args.g.now.wired.edges); transition = omega arith }
 
 pub loop-t-preserved : goal.loop-t-preserved
-loop-t-preserved c =
-    summing_more c.loop-t.waits (omega arith) c.loop-t.invariant c.wait_sum.ensures
+loop-t-preserved c = summing_more c.loop-t.waits (omega arith) c.loop-t.invariant c.wait_sum.ensures
 
 pub returns : goal.returns
 returns c = summing_waited (omega arith) c.loop-t.invariant c.loop-t.auto.waits

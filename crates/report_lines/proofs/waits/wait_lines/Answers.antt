@@ -5,7 +5,7 @@ use Rattle.report_lines.proofs.waits.wait_lines.Goals as goal
 
 pub pair_line-requires : goal.pair_line-requires
 unfolding wait_lines
-pair_line-requires c = rw c.from.ensures (row_room c.loop-t.invariant c.loop-t-test.true c.requires.has_room)
+pair_line-requires c = rw c.from.ensures (row_room c.loop-t.invariant (rw c.transitions-t-end.ensures at c.loop-t-test.true) c.requires.has_room)
 
 pub loop-t-preserved : goal.loop-t-preserved
 loop-t-preserved c = row_more c.loop-t.invariant (rw c.from.ensures at c.pair_line.ensures)
