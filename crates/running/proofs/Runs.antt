@@ -1,5 +1,5 @@
--- A run as its loop goes: at the start, after an entry that fired, at one that is refused, and at the end.
-use mathlib.Core.Path.{◌≡◌, ◌∙◌, ap, refl, subst, sym}
+-- A run as its loop goes: after an entry that fired, at one that is refused, and at the end.
+use mathlib.Core.Path.{◌≡◌, ◌∙◌, ap, subst, sym}
 use mathlib.Core.List.{List, [], ◌∷◌}
 use Prim.Native.Nat.{◌*◌, ◌+◌, suc, ℕ}
 use native.Mathlib.Numerals.{add-one}
@@ -34,9 +34,6 @@ pub record Going (n e : ℕ) (from to m₀ list : List ℕ) (i : ℕ) (rec : Run
   pub few : Few n e from to m
   pub left : (k : ℕ) (x : Verdict) (z : List ℕ) → Runs (net_of (wires n e from to)) m (drop rec.next list) k x z
       → Runs (net_of (wires n e from to)) m₀ list (rec.fired + k) x z
-
-pub going_start : {n e : ℕ} {from to m list : List ℕ} → Few n e from to m → Going n e from to m list 0 (record { places = 3 * n + 2 * e; next = 0; fired = 0 }) m
-going_start few = record { places = refl; next = refl; counted = refl; long = refl; few = few; left = λ k x z r. counts (omega arith) r }
 
 module _ {n e : ℕ} {from to m₀ list : List ℕ} {i : ℕ} {rec : RunRecord} {m : List ℕ} (g : Going n e from to m₀ list i rec m) where
   abbrev net : Net

@@ -2,16 +2,12 @@
 use Rattle.std.proofs.lemmas.Result.{err_from_is_err_and}
 use Rattle.refusal.proofs.Asked.{judged_given, judged_sound}
 use Rattle.stepping_graph.specs.helpers.Work.GraphStepped.{kept, taken}
-use Rattle.stepping_graph.proofs.Few.{accepted_few}
 use Rattle.stepping_graph.proofs.graph.step_graph.Goals as goal
 
 pub returns-in_err-accepts : goal.returns-in_err-accepts
 returns-in_err-accepts c =
     let p = err_from_is_err_and c.from_residual.result c.from_residual.ensures.1 in
     rw (p.1, p.2) (kept (judged_given c.in_err-accepts.ensures))
-
-pub step_rows-requires : goal.step_rows-requires
-step_rows-requires c = accepted_few c.args.g.now.mark.now c.args.g.now.wiring.wired (judged_sound c.in_ok-accepts.ensures)
 
 pub returns : goal.returns
 returns c = taken (judged_sound c.in_ok-accepts.ensures) c.step_rows.ensures

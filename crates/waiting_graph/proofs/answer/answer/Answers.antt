@@ -1,6 +1,5 @@
 -- Rows 10 and 11, row 12, then the sum: `answers_row`, `answers_12`, `answers_wait`.
 use native.Mathlib.Omega.{arith}
-use mathlib.Core.Path.{refl}
 use Rattle.std.proofs.lemmas.Result.{err_from_is_err_and}
 use Rattle.refusal.proofs.Asked.{judged_given, judged_sound}
 use Rattle.waiting_graph.proofs.GraphAnswers.{answers_12, answers_row, answers_wait}
@@ -13,10 +12,6 @@ returns-in_err-accepts c =
 
 pub returns-then-transitions-t : goal.returns-then-transitions-t
 returns-then-transitions-t c = rw (c.refuse.ensures, ← c.from-t.ensures) (answers_12 (judged_sound c.in_ok-accepts.ensures) (omega arith))
-
-pub wait_sum-requires : goal.wait_sum-requires
-wait_sum-requires c =
-    record { joined = c.requires.joined; long = omega (arith, ((judged_sound c.in_ok-accepts.ensures).kept.0 0 refl).fits); transition = omega arith }
 
 pub returns : goal.returns
 returns c = answers_wait (judged_sound c.in_ok-accepts.ensures) (omega arith) (rw c.from-t.ensures at c.wait_sum.ensures)
