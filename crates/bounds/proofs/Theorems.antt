@@ -11,7 +11,6 @@ use Rattle.file.specs.Labels.{SameButLabels}
 use Rattle.reader.specs.Reply.{LookReply, shown}
 use Rattle.reader.specs.Outcome.{Ends, Outcome, accepted, passed, refused, unread}
 use Rattle.reader.specs.declared.graph.Graph.{Graph}
-use Rattle.reader.specs.declared.graph.Look.{Look}
 use Rattle.reader.proofs.Accepting.{accepted_good}
 use Rattle.reader.proofs.Determined.{look_determined}
 use Rattle.reader.proofs.Outcomes.{outcome_carries, outcome_determined}
@@ -23,8 +22,8 @@ use Rattle.circuit.proofs.Unique.{handed_unique}
 use Rattle.bounds_graph.specs.Rows.{bounds_rows}
 use Rattle.bounds.specs.Reply.{BoundsReplies, BoundsReply, bounded, refused}
 use Rattle.bounds_graph.specs.Measured.{BoundsOf}
-use Rattle.bounds_graph.specs.declared.reply.Bounds.{Bounds}
-use Rattle.bounds_graph.specs.declared.reply.Bounds.TheVariants.{Bounded}
+use Rattle.refusal.specs.declared.Refusal.{Refusal}
+use Rattle.std.specs.Prelude.{Result, Ok}
 use Rattle.bounds_graph.specs.declared.reply.Measures.{Measures}
 
 -- The graph of an accepted file is good.
@@ -32,7 +31,7 @@ abbrev GoodGraph : Graph → Type 0
 GoodGraph g = Good g.operations g.edges g.times g.from g.to g.mark g.buffers
 
 ends_good : {f : List ℕ} {g : Graph} (before : List ℕ) → Ends f (bounds_rows before) (accepted g) → GoodGraph g
-ends_good {f} before (passed {l = l} q e s) = accepted_good f l e q
+ends_good {f} before (passed q s) = accepted_good f q
 
 -- One graph has one set of bounds.
 pub one_bounds :
@@ -57,43 +56,43 @@ one_bounds g {r} {s} {before} {after} live x y =
     (same, u.1)
 
 one_reply :
-    {before after after' : List ℕ} {o : Outcome} {r s : Bounds} → ((g : Graph) → o ≡ accepted g → GoodGraph g) → BoundsReplies before o r after → BoundsReplies before o s after'
+    {before after after' : List ℕ} {o : Outcome} {r s : Result Measures Refusal} → ((g : Graph) → o ≡ accepted g → GoodGraph g) → BoundsReplies before o r after → BoundsReplies before o s after'
     → (r ≡ s) × (after ≡ after')
 one_reply a refused refused = (refl, refl)
-one_reply a (bounded {g = g} x) (bounded y) = let u = one_bounds (shown g) (a g refl).live x y in (λ i. Bounded (u.0 i), u.1)
+one_reply a (bounded {g = g} x) (bounded y) = let u = one_bounds (shown g) (a g refl).live x y in (λ i. Ok (u.0 i), u.1)
 
 -- Two replies that `BoundsReply` allows are equal, and so is every entry of the buffer after them, the circuit's and the others'.
-pub bounds_determined : (f before : List ℕ) (r s : Bounds) (after after' : List ℕ) → BoundsReply f before r after → BoundsReply f before s after' → (r ≡ s) × (after ≡ after')
+pub bounds_determined : (f before : List ℕ) (r s : Result Measures Refusal) (after after' : List ℕ) → BoundsReply f before r after → BoundsReply f before s after' → (r ≡ s) × (after ≡ after')
 bounds_determined f before r s after after' p q =
     let e : p.outcome ≡ q.outcome = outcome_determined f (bounds_rows before) p.ends q.ends in
     one_reply (λ g o. ends_good before (subst (Ends f (bounds_rows before)) o q.ends)) (subst (λ (o : Outcome). BoundsReplies before o r after) e p.replies) q.replies
 
 -- A reply for a file is one for each file that differs only in labels,
-pub bounds_carries : (f g before : List ℕ) (r : Bounds) (after : List ℕ) → SameButLabels f g → BoundsReply f before r after → BoundsReply g before r after
+pub bounds_carries : (f g before : List ℕ) (r : Result Measures Refusal) (after : List ℕ) → SameButLabels f g → BoundsReply f before r after → BoundsReply g before r after
 bounds_carries f g before r after s p = record { outcome = p.outcome; ends = outcome_carries s p.ends; replies = p.replies }
 
 -- so such files get equal replies, with equal buffers after them.
 pub bounds_label_blind :
-    (f g before : List ℕ) (r s : Bounds) (after after' : List ℕ) → SameButLabels f g → BoundsReply f before r after → BoundsReply g before s after' → (r ≡ s) × (after ≡ after')
+    (f g before : List ℕ) (r s : Result Measures Refusal) (after after' : List ℕ) → SameButLabels f g → BoundsReply f before r after → BoundsReply g before s after' → (r ≡ s) × (after ≡ after')
 bounds_label_blind f g before r s after after' a p q = bounds_determined g before r s after after' (bounds_carries f g before r after a p) q
 
 -- The bounds of a reply are those of look's graph.
-pub bounds_of_look : (f before after : List ℕ) (r : Measures) (l : Look) → LookReply f l → BoundsReply f before (Bounded r) after → BoundsOf (shown l.graph) before r after
-bounds_of_look f before after r l p q = of q.ends q.replies
+pub bounds_of_look : (f before after : List ℕ) (r : Measures) (g : Graph) → LookReply f (Ok g) → BoundsReply f before (Ok r) after → BoundsOf (shown g) before r after
+bounds_of_look f before after r g p q = of q.ends q.replies
   where
-    of : {o : Outcome} → Ends f (bounds_rows before) o → BoundsReplies before o (Bounded r) after → BoundsOf (shown l.graph) before r after
-    of (unread u e) x = elim x [ ]
-    of (refused u e h) x = elim x [ ]
-    of (passed {l = s} u e h) (bounded x) = subst (λ (k : Look). BoundsOf (shown k.graph) before r after) (look_determined f s l u p) x
+    of : {o : Outcome} → Ends f (bounds_rows before) o → BoundsReplies before o (Ok r) after → BoundsOf (shown g) before r after
+    of (unread u) x = elim x [ ]
+    of (refused u h) x = elim x [ ]
+    of (passed {g = s} u h) (bounded x) = let e : s ≡ g = cc (look_determined f (Ok s) (Ok g) u p) in subst (λ (k : Graph). BoundsOf (shown k) before r after) e x
 
 -- TBIO ≤ TT ≤ TCE.
-pub bounds_ordered : (f before after : List ℕ) (r : Measures) → BoundsReply f before (Bounded r) after → (r.tbio ≤ r.tt) × (r.tt ≤ r.tce)
+pub bounds_ordered : (f before after : List ℕ) (r : Measures) → BoundsReply f before (Ok r) after → (r.tbio ≤ r.tt) × (r.tt ≤ r.tce)
 bounds_ordered f before after r q = of q.ends q.replies
   where
-    of : {o : Outcome} → Ends f (bounds_rows before) o → BoundsReplies before o (Bounded r) after → (r.tbio ≤ r.tt) × (r.tt ≤ r.tce)
-    of (unread u e) x = elim x [ ]
-    of (refused u e h) x = elim x [ ]
-    of (passed {l = s} u e h) (bounded x) = (tbio_most x.tbio_is x.tt_is, tt_most (good_passing (accepted_good f s e u)) x.tt_is x.tce_is)
+    of : {o : Outcome} → Ends f (bounds_rows before) o → BoundsReplies before o (Ok r) after → (r.tbio ≤ r.tt) × (r.tt ≤ r.tce)
+    of (unread u) x = elim x [ ]
+    of (refused u h) x = elim x [ ]
+    of (passed u h) (bounded x) = (tbio_most x.tbio_is x.tt_is, tt_most (good_passing (accepted_good f u)) x.tt_is x.tce_is)
 
 -- A good graph has a path from the source to the data sink: TBIO and TT are never over nothing.
 pub bounds_path : (g : Graph) → GoodGraph g → Reached (shown g) (g.operations + 1)

@@ -1,13 +1,16 @@
 -- Look's refusal as it stands; else the reply for look's graph, which is good.
 use Rattle.bounds.proofs.Answers.{answered_reply, unread_reply}
+use Rattle.std.proofs.lemmas.Result.{err_from_is_err_and}
 use Rattle.reader.proofs.Accepting.{accepted_good}
 use Rattle.bounds.proofs.bounds.Goals as goal
 
-pub returns-in-Refused : goal.returns-in-Refused
-returns-in-Refused c = unread_reply c.look-looked.ensures c.in-Refused.is
+pub returns-in_err-g : goal.returns-in_err-g
+returns-in_err-g c =
+    let p = err_from_is_err_and c.from_residual.result c.from_residual.ensures.1 in
+    rw (p.1, p.2) (unread_reply c.in_err-g.ensures)
 
-pub answer-requires : goal.answer-requires
-answer-requires c = accepted_good c.args.file.now c.look-looked.result c.in_default.is c.look-looked.ensures
+pub lend-requires : goal.lend-requires
+lend-requires c = accepted_good c.args.file.now c.in_ok-g.ensures
 
 pub returns : goal.returns
-returns c = answered_reply c.look-looked.ensures c.in_default.is c.answer.ensures
+returns c = answered_reply c.in_ok-g.ensures (rw (← c.lend.ensures.plan) c.answer.ensures)
