@@ -21,11 +21,11 @@ pub fn improve(
     requires level { Level lowly d.old }
     ensures { Improved (loaded_of g.now) rate.time rate.tokens d.new result }
 {
-    let mut pred = [0u16; TRANSITIONS];
+    let mut pred = [None; TRANSITIONS];
     for _ in 0..TRANSITIONS + 1 {
         let v = sweep(g, rate, ord, d, &mut pred)?;
         let w = follow(&g.wiring, &pred, v);
-        if pred[w] != 0 {
+        if pred[w].is_some() {
             let ring = go_round(g, &pred, w);
             return Some(ring);
         }

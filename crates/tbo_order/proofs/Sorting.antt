@@ -13,18 +13,12 @@ use Rattle.tbo_order.specs.helpers.Items.{Enlisted, ItemAt, ItemOf, Ordered, Sor
 use Rattle.tbo_order.specs.helpers.Items.Where.{kept, next, put}
 
 module _ {n e : ℕ} {from to : List ℕ} {left ord : List Item} {i l m c : ℕ} (s : Sorting n e left ord i l m c) (o : Wired n e from to) (h : i < l) where
-  pub sort_item : ItemOf n e (item left i)
-  sort_item = s.lefts i h
-
   -- There is room for it in either list.
-  pub room_put : c < 168
+  room_put : c < 168
   room_put = omega (arith, s.behind, s.sum, o.operations, o.edges)
 
-  pub room_kept : m < 168
+  room_kept : m < 168
   room_kept = omega (arith, s.behind, s.sum, o.operations, o.edges)
-
-  pub room_next : i < 168
-  room_next = omega (arith, s.most, o.operations, o.edges)
 
   module _ {x : Item} (ex : x ≡ item left i) where
     put_where : {y : Item} → Where left ord i l m c y → Where left (set ord c x) (i + 1) l m (c + 1) y
@@ -44,7 +38,7 @@ module _ {n e : ℕ} {from to : List ℕ} {left ord : List Item} {i l m c : ℕ}
       sum = omega (arith, s.sum);
       lefts = s.lefts;
       puts = λ j k. elim (ℕ_discrete j c) [
-        | yes z ↦ subst (ItemOf n e) (sym (ap (item (set ord c x)) z ∙ get_or-set_same ord c x (Edge 0) (omega (arith, s.long, room_put)) ∙ ex)) sort_item
+        | yes z ↦ subst (ItemOf n e) (sym (ap (item (set ord c x)) z ∙ get_or-set_same ord c x (Edge 0) (omega (arith, s.long, room_put)) ∙ ex)) (s.lefts i h)
         | no z ↦ subst (ItemOf n e) (sym (get_or-set_other ord c j x (Edge 0) z)) (s.puts j (omega arith))
       ];
       all = λ y k. put_where (s.all y k);
@@ -68,7 +62,7 @@ module _ {n e : ℕ} {from to : List ℕ} {left ord : List Item} {i l m c : ℕ}
       most = s.most;
       sum = omega (arith, s.sum);
       lefts = λ j k. elim (ℕ_discrete j m) [
-        | yes z ↦ subst (ItemOf n e) (sym (ap (item (set left m x)) z ∙ get_or-set_same left m x (Edge 0) (omega (arith, s.wide, room_kept)) ∙ ex)) sort_item
+        | yes z ↦ subst (ItemOf n e) (sym (ap (item (set left m x)) z ∙ get_or-set_same left m x (Edge 0) (omega (arith, s.wide, room_kept)) ∙ ex)) (s.lefts i h)
         | no z ↦ subst (ItemOf n e) (sym (get_or-set_other left m j x (Edge 0) z)) (s.lefts j k)
       ];
       puts = s.puts;

@@ -15,11 +15,13 @@ use net::TRANSITIONS;
 use tbo_order::{ITEMS, Item};
 
 // The raise of t from s over the place p, which leads there. The answer is t if it rose.
+// The heights d and the notes pred are two arrays, here and below: d is lent from outside, and in a struct every function would have to promise that
+// it hands back the same one.
 fn raise(
     g: &Load,
     rate: Rate,
     d: &mut [u64; TRANSITIONS],
-    pred: &mut [u16; TRANSITIONS],
+    pred: &mut [Option<u16>; TRANSITIONS],
     s: usize,
     t: usize,
     p: usize,
@@ -33,7 +35,7 @@ fn raise(
     let cost = rate.cost(g.marking[p]);
     if d[t] + cost < up {
         d[t] = up - cost;
-        pred[t] = (p + 1) as u16;
+        pred[t] = Some(p as u16);
         return Some(t);
     }
     None
@@ -44,7 +46,7 @@ fn raise_op(
     g: &Load,
     rate: Rate,
     d: &mut [u64; TRANSITIONS],
-    pred: &mut [u16; TRANSITIONS],
+    pred: &mut [Option<u16>; TRANSITIONS],
     i: usize,
 ) -> Option<usize>
     requires row { i < g.now.wiring.operations }
@@ -64,7 +66,7 @@ fn raise_edge(
     g: &Load,
     rate: Rate,
     d: &mut [u64; TRANSITIONS],
-    pred: &mut [u16; TRANSITIONS],
+    pred: &mut [Option<u16>; TRANSITIONS],
     k: usize,
 ) -> Option<usize>
     requires edge { k < g.now.wiring.edges }
@@ -86,7 +88,7 @@ fn raise_item(
     g: &Load,
     rate: Rate,
     d: &mut [u64; TRANSITIONS],
-    pred: &mut [u16; TRANSITIONS],
+    pred: &mut [Option<u16>; TRANSITIONS],
     x: Item,
 ) -> Option<usize>
     requires item { ItemOf g.now.wiring.operations g.now.wiring.edges x }
@@ -106,7 +108,7 @@ pub fn sweep(
     rate: Rate,
     ord: &[Item; ITEMS],
     d: &mut [u64; TRANSITIONS],
-    pred: &mut [u16; TRANSITIONS],
+    pred: &mut [Option<u16>; TRANSITIONS],
 ) -> Option<usize>
     requires ordered { Ordered g.now.wiring.operations g.now.wiring.edges ord.now }
     requires room { Room highest d.old pred.old }
