@@ -48,7 +48,7 @@ impl Search<'_> {
         }
     }
 
-    // The places from each transition of the queue, those that join it on the way among them.
+    // The places from each transition of the queue. Others join it on the way, so no range says where it ends.
     fn reach(&mut self) {
         let mut done = 0;
         while done < self.end {

@@ -26,7 +26,8 @@ struct Search<'a> {
     // Each transition met has a number, in the order of meeting; `last` was given last.
     number: [u8; TRANSITIONS],
     last: u8,
-    // Until a transition is placed, its level is the lowest number that it is known to reach; `lowest` is the level of the next component.
+    // Until a transition is placed, its level is the lowest number that it is known to reach, and 0 before it is met: a level is weighed later as a plain number.
+    // `lowest` is the level of the next component.
     level: [u8; TRANSITIONS],
     lowest: u8,
     // The way to where the search is, and the transitions met and not yet placed.
