@@ -6,20 +6,19 @@ use native.Mathlib.Decide.{ℕ_discrete}
 use native.Mathlib.Omega.{arith}
 use lib.ListN.{length}
 use Rattle.refusal.specs.declared.Refusal.{Refusal}
-use Rattle.refusal.specs.declared.Verdict.{Verdict}
-use Rattle.refusal.specs.declared.Verdict.TheVariants.{Accepted, Refused}
 use Rattle.refusal.proofs.Asked.{given_here, lowest_whole, sound_next, sound_none}
 use Rattle.marked.specs.Net.{at}
 use Rattle.net.specs.Plan.{Plan}
 use Rattle.net.specs.Graph.{net_of, start_of}
 use Rattle.reader.specs.Reply.{LookReply, shown}
 use Rattle.reader.specs.Outcome.{passed, refused as stopped, unread}
-use Rattle.reader.specs.declared.graph.Look.{Look}
+use Rattle.reader.specs.declared.graph.Graph.{Graph}
 use Rattle.reader.proofs.Total.{look_total, look_of}
-use Rattle.stepping_graph.specs.declared.reply.Start.{Start}
-use Rattle.stepping_graph.specs.declared.reply.Start.TheVariants.{Refused as StartRefused, Started}
 use Rattle.stepping.specs.Replies.{AtStart, StartReply}
 use Rattle.stepping.specs.Replies.StartReply.{refused, started}
+use Rattle.std.specs.Prelude.{Err, Ok, Result}
+use Rattle.refusal.specs.Asking.{Verdict}
+use Rattle.refusal.specs.declared.Reason.TheVariants.{Marking}
 
 -- The n values of h from i on.
 abbrev listed : ℕ → (ℕ → ℕ) → ℕ → List ℕ
@@ -48,21 +47,21 @@ at_start g =
 
 -- A reply, and the bytes that it leaves.
 pub record Replied (f m : List ℕ) : Type 0 where
-  pub reply : Start
+  pub reply : Verdict
   pub bytes : List ℕ
   pub allowed : StartReply f m reply bytes
 
-module _ (f m : List ℕ) (l : Look) (look : LookReply f l) where
-  fitting : l.verdict ≡ Accepted → Dec (length m ≡ (net_of (shown l.graph)).places) → Replied f m
-  fitting e (yes h) =
-      record { reply = Started; bytes = start_bytes (shown l.graph); allowed = started (passed look e (sound_next (λ x p. h) sound_none)) (at_start (shown l.graph)) }
-  fitting e (no h) =
-      let r : Refusal = record { number = 10; place = 0 } in
-      record { reply = StartRefused r; bytes = m; allowed = refused (stopped look e (given_here r refl (lowest_whole h))) }
+module _ (f m : List ℕ) where
+  fitting : {g : Graph} → LookReply f (Ok g) → Dec (length m ≡ (net_of (shown g)).places) → Replied f m
+  fitting {g} look (yes h) =
+      record { reply = Ok tt; bytes = start_bytes (shown g); allowed = started (passed look (sound_next (λ x p. h) sound_none)) (at_start (shown g)) }
+  fitting look (no h) =
+      let r : Refusal = record { reason = Marking; place = 0 } in
+      record { reply = Err r; bytes = m; allowed = refused (stopped look (given_here r refl (lowest_whole h))) }
 
-  judged : (v : Verdict) → l.verdict ≡ v → Replied f m
-  judged Accepted e = fitting e (ℕ_discrete (length m) (net_of (shown l.graph)).places)
-  judged (Refused r) e = record { reply = StartRefused r; bytes = m; allowed = refused (unread look e) }
+  replied : (l : Result Graph Refusal) → LookReply f l → Replied f m
+  replied (Ok g) look = fitting look (ℕ_discrete (length m) (net_of (shown g)).places)
+  replied (Err r) look = record { reply = Err r; bytes = m; allowed = refused (unread look) }
 
 pub start_total : (f m : List ℕ) → Replied f m
-start_total f m = judged f m (look_of f) (look_total f) (look_of f).verdict refl
+start_total f m = replied f m (look_of f) (look_total f)
