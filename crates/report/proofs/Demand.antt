@@ -8,11 +8,11 @@ pub use Rattle.pen_put.proofs.PutLaws.{sets_front}
 use Rattle.report_text.specs.Text.{head_text, report_text}
 use Rattle.report.specs.Demand.{WaitsPrinted}
 use Rattle.report.specs.Reply.{ReportReply, written}
-use Rattle.report_graph.specs.declared.reply.Report.TheVariants.{Written}
+use Rattle.std.specs.Prelude.{Ok}
 use Rattle.report.proofs.Theorems.{numbers_demand, reported_good}
 
 -- Demand 3 through the report.
-pub report_demand : (f before after : List ℕ) (len : ℕ) → len ≤ length before → ReportReply f before (Written len) after → WaitsPrinted f after len
+pub report_demand : (f before after : List ℕ) (len : ℕ) → len ≤ length before → ReportReply f before (Ok len) after → WaitsPrinted f after len
 unfolding report_text
 report_demand f before after len h (written {g = g} {v = v} {ring = ring} {wait = wait} k e n p) =
     let meets = numbers_demand {g = g} {v = v} {ring = ring} {wait = wait} (reported_good e) n in

@@ -5,6 +5,7 @@ use mathlib.Core.Logic.{⊎_elim}
 use mathlib.Core.List.{List}
 use native.Mathlib.Omega.{arith}
 use Rattle.refusal.specs.Asking.{FirstBroken, Given}
+use Rattle.refusal.specs.Numbers.{number_of}
 use Rattle.refusal.specs.declared.Refusal.{Refusal}
 use Rattle.net.specs.Limits.{Counted}
 use Rattle.net.specs.Plan.{Plan}
@@ -26,12 +27,12 @@ graph_small g c k x =
     (λ q. ⊎_elim (λ p. omega (arith, p.0, p.1.place, c.operations.high_met)) (λ q. absurd q.1) q.1) q.1) q.1) q.1)
 
 -- All rows of look.
-pub given_small : (f : List ℕ) (r : Refusal) → Given (look_rows f) r → (r.number < 10) × (r.place < 1000)
+pub given_small : (f : List ℕ) (r : Refusal) → Given (look_rows f) r → (number_of r.reason < 10) × (r.place < 1000)
 given_small f r h = look h.first
   where
-    look : FirstBroken (look_rows f) r.number r.place → Small r.number r.place
+    look : FirstBroken (look_rows f) (number_of r.reason) r.place → Small (number_of r.reason) r.place
     look =
         ⊎_elim (λ p. omega (arith, p.0, p.1.place))
         (λ q. ⊎_elim (λ p. omega (arith, p.0, p.1.place))
         (λ q. ⊎_elim (λ p. omega (arith, p.0, p.1.place))
-        (λ three. ⊎_elim (λ p. omega (arith, p.0, p.1.place)) (λ q. graph_small (plan_of f) (three.0 0 refl) r.number r.place q.1) three.1) q.1) q.1)
+        (λ three. ⊎_elim (λ p. omega (arith, p.0, p.1.place)) (λ q. graph_small (plan_of f) (three.0 0 refl) (number_of r.reason) r.place q.1) three.1) q.1) q.1)

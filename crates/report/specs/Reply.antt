@@ -1,5 +1,6 @@
 -- What report replies (document 01, "The report" and "Calls and refusals"), over look's reply.
-use Rattle.std.specs.Prelude.{List, [], ◌∷◌, ◌≤◌, ℕ, length}
+use Rattle.std.specs.Prelude.{List, [], ◌∷◌, ◌≤◌, ℕ, length, Result, Ok, Err}
+use Rattle.refusal.specs.Numbers.{number_of}
 use Rattle.refusal.specs.Asking.{Ask, Given, Sound, asked}
 use Rattle.refusal.specs.declared.Refusal.{Refusal}
 use Rattle.net.specs.Plan.{Plan}
@@ -11,8 +12,7 @@ use Rattle.pen_put.specs.Lines.{Put}
 use Rattle.report_text.specs.Text.{refused_line}
 use Rattle.report_graph.specs.Numbers.{Numbers, text_of}
 use Rattle.report_text.specs.Room.{report_bytes}
-use Rattle.report_graph.specs.declared.reply.Report.{Report}
-use Rattle.report_graph.specs.declared.reply.Report.TheVariants.{Refused, Written}
+use Rattle.report_graph.specs.declared.reply.RefusedReport.{RefusedReport}
 
 -- What report asks before it looks at the file: 14.
 abbrev pub room_rows : List ℕ → List Ask
@@ -24,9 +24,9 @@ report_rows g = []
 
 -- `report` of a file f and a buffer: 14 is given, and nothing is written. Else the text stands at the buffer's beginning, all else is as it was, and len is the
 -- text's length: the line with the number and the place of a refusal, 1 to 9, or the report of look's graph.
-pub data ReportReply (f before : List ℕ) : Report → List ℕ → Type 0 where
-  short : {r : Refusal} → Given (room_rows before) r → ReportReply f before (Refused r 0) before
+pub data ReportReply (f before : List ℕ) : Result ℕ RefusedReport → List ℕ → Type 0 where
+  short : {r : Refusal} → Given (room_rows before) r → ReportReply f before (Err (record { refusal = r; length = 0 })) before
   refused : {r : Refusal} {len : ℕ} {after : List ℕ} → Sound (room_rows before) → Ends f report_rows (refusal r)
-      → Put before 0 (refused_line r.number r.place) after len → ReportReply f before (Refused r len) after
+      → Put before 0 (refused_line (number_of r.reason) r.place) after len → ReportReply f before (Err (record { refusal = r; length = len })) after
   written : {g : Graph} {v : Measures} {ring : List ℕ} {wait : ℕ → ℕ} {len : ℕ} {after : List ℕ} → Sound (room_rows before) → Ends f report_rows (accepted g)
-      → Numbers (shown g) v ring wait → Put before 0 (text_of (shown g) v ring wait) after len → ReportReply f before (Written len) after
+      → Numbers (shown g) v ring wait → Put before 0 (text_of (shown g) v ring wait) after len → ReportReply f before (Ok len) after

@@ -4,9 +4,9 @@
 ghost use Rattle.report.specs.Reply.{ReportReply};
 
 use reader::look;
-use refusal::{Refusal, Verdict};
+use refusal::{Reason, refuse};
 use report_graph::answer::answer;
-use report_graph::reply::Report;
+use report_graph::reply::RefusedReport;
 use report_lines::write_refused;
 use report_text::roomy;
 
@@ -15,33 +15,20 @@ pub const ROOM: usize = report_text::ROOM;
 
 // Writes the report of a file, or the one line of its refusal by 1 to 9, and says how long it is.
 // A buffer without room is refused by 14 before the file is looked at, with nothing written.
-pub fn report(file: &[u8], buffer: &mut [u8]) -> Report
+pub fn report(file: &[u8], buffer: &mut [u8]) -> Result<usize, RefusedReport>
     ensures { ReportReply file.now buffer.old result buffer.new }
 {
     if !roomy(buffer.len()) {
-        return Report::Refused {
-            refusal: Refusal {
-                number: 14,
-                place: 0,
-            },
+        return Err(RefusedReport {
+            refusal: refuse(Reason::Room, 0),
             length: 0,
-        };
+        });
     }
-    let looked = look(file);
-    if let Verdict::Refused(refusal) = looked.verdict {
-        let length = write_refused(buffer, refusal.number, refusal.place);
-        return Report::Refused { refusal, length };
+    match look(file) {
+        Ok(g) => Ok(answer(&g.lend(), buffer)),
+        Err(refusal) => Err(RefusedReport {
+            refusal,
+            length: write_refused(buffer, refusal),
+        }),
     }
-    let g = looked.graph;
-    let length = answer(
-        g.operations,
-        g.edges,
-        &g.times,
-        &g.from,
-        &g.to,
-        &g.mark,
-        &g.buffers,
-        buffer,
-    );
-    Report::Written { length }
 }

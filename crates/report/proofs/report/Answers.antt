@@ -10,19 +10,22 @@ use Rattle.report.proofs.report.Goals as goal
 
 pub returns-then-not-roomy : goal.returns-then-not-roomy
 returns-then-not-roomy c =
-    short (short_given c.args.buffer.now (omega (arith, denied c.roomy.ensures c.if-not-roomy.true)))
+    rw c.refuse.ensures (short (short_given c.args.buffer.now (omega (arith, denied c.roomy.ensures c.if-not-roomy.true))))
 
-pub write_refused-length-requires : goal.write_refused-length-requires
-write_refused-length-requires c = omega (arith, said c.roomy.ensures c.if-not-roomy.false)
+pub write_refused-requires : goal.write_refused-requires
+write_refused-requires c = omega (arith, said c.roomy.ensures c.if-not-roomy.false)
 
-pub returns-in-Refused : goal.returns-in-Refused
-returns-in-Refused c =
-    refused (sound_next (λ _ _. said c.roomy.ensures c.if-not-roomy.false) sound_none) (unread c.look-looked.ensures c.in-Refused.is) c.write_refused-length.ensures
+pub lend-requires : goal.lend-requires
+lend-requires c = accepted_good _ c.in-Ok.ensures
 
-pub answer-length-requires : goal.answer-length-requires
-answer-length-requires c =
-    record { good = accepted_good _ c.look-looked.result c.in_default.is c.look-looked.ensures; report_bytes_in_bounds = said c.roomy.ensures c.if-not-roomy.false }
+pub answer-requires : goal.answer-requires
+answer-requires c = record { good = c.lend.ensures.good; report_bytes_in_bounds = said c.roomy.ensures c.if-not-roomy.false }
 
-pub returns : goal.returns
-returns c =
-    written (sound_next (λ _ _. said c.roomy.ensures c.if-not-roomy.false) sound_none) (passed c.look-looked.ensures c.in_default.is sound_none) c.answer-length.ensures.numbers c.answer-length.ensures.put
+pub returns-in-Err : goal.returns-in-Err
+returns-in-Err c =
+    refused (sound_next (λ _ _. said c.roomy.ensures c.if-not-roomy.false) sound_none) (unread c.in-Err.ensures) c.write_refused.ensures
+
+pub returns-in-Ok : goal.returns-in-Ok
+returns-in-Ok c =
+    let told = rw c.lend.ensures.plan at c.answer.ensures in
+    written (sound_next (λ _ _. said c.roomy.ensures c.if-not-roomy.false) sound_none) (passed c.in-Ok.ensures sound_none) told.numbers told.put
