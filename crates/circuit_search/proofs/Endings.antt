@@ -1,46 +1,51 @@
 -- The start of the search on its arrays, what is left to try, and what it answers.
-use mathlib.Core.Path.{◌≡◌, ◌∙◌}
+use mathlib.Core.Path.{◌≡◌, ap, refl, ◌∙◌}
 use mathlib.Core.Logic.{◌≢◌}
-use mathlib.Core.Bool.{true, false}
+use mathlib.Core.Bool.{Bool, true, false}
 use mathlib.Core.List.{List, []}
-use Prim.Native.Nat.{◌*◌, ◌+◌, ◌-◌, ◌<◌, ◌≤◌, ℕ}
+use Prim.Native.Nat.{◌*◌, ◌+◌, ◌-◌, ◌<◌, ◌≤◌, suc, zero, ℕ}
 use native.Mathlib.Omega.{arith}
-use lib.ListN.{length, length-set, replicate, set}
+use lib.ListN.{get_or, length, length-set, replicate, set}
 use lib.Seq.{get_or-set_other, get_or-set_same}
 use Rattle.marked.specs.Sums.{upto}
 use Rattle.marked.specs.Net.{at}
 use Rattle.marked.proofs.Tallies.{upto_most}
-use Rattle.marked.proofs.Fresh.{zeros}
 use Rattle.circuit_tight.specs.helpers.Lists.{Headed, Threaded, Listed, drawn}
 use Rattle.circuit_search.specs.helpers.Ways.{Cut, FirstNoted}
-use Rattle.circuit_search.specs.helpers.Turns.{MoveEnds, Sought, Turned, Under}
+use Rattle.circuit_search.specs.helpers.Turns.{MoveEnds, Sought, Turned, Under, mark, marks}
 use Rattle.circuit_search.specs.helpers.Turns.MoveEnds.{gone, got, moved}
 use Rattle.circuit_search.specs.declared.Move.{Move}
 use Rattle.circuit_search.specs.declared.Move.TheVariants.{At, GivenUp, Reached}
 use Rattle.circuit_search.proofs.Keeping.{begin}
 
+-- At the start none is met.
+unmet : (n v : ℕ) → get_or (replicate n false) v false ≡ false
+unmet zero v = refl
+unmet (suc n) zero = refl
+unmet (suc n) (suc v) = unmet n v
+
 -- The start of the search.
 pub under_start :
     {nt np : ℕ} {head next src dst via : List ℕ} {root goal : ℕ} → Threaded nt np next src dst → Headed nt np head src dst → root < nt → goal ≢ root → length via ≡ 122 →
-    Under nt np src dst root goal (set (replicate 122 0) root 1) via head root
+    Under nt np src dst root goal (set (replicate 122 false) root true) via head root
 under_start {nt} {np} {head} {next} {src} {dst} {via} {root} {goal} k o h f l = record {
   ts = [];
-  search = begin {M = at (set (replicate 122 0) root 1)} (λ e. omega (arith, one)) (λ v d. get_or-set_other (replicate 122 0) root v 1 0 d ∙ zeros 122 v) k.leaves o.heads o.low f;
+  search = begin {M = marks (set (replicate 122 false) root true)} (λ e. omega (arith, one)) (λ v d. ap mark (get_or-set_other (replicate 122 false) root v true false d ∙ unmet 122 v)) k.leaves o.heads o.low f;
   start = h;
-  wide = length-set (replicate 122 0) root 1;
+  wide = length-set (replicate 122 false) root true;
   deep = l;
   long = o.long;
   low = λ v. omega (arith, o.low v);
 }
   where
-    one : ◌≡◌ {A = ℕ} (at (set (replicate 122 0) root 1) root) 1
-    one = get_or-set_same (replicate 122 0) root 1 0 (omega (arith, k.few))
+    one : ◌≡◌ {A = ℕ} (marks (set (replicate 122 false) root true) root) 1
+    one = ap mark (get_or-set_same (replicate 122 false) root true false (omega (arith, k.few)))
 
 -- What is left to try.
 pub left : ℕ → List ℕ → ℕ
 left np cur = 122 * (np + 1) - upto (at cur) 122
 
-module _ {nt np : ℕ} {src dst : List ℕ} {root goal : ℕ} {seen via cur : List ℕ} where
+module _ {nt np : ℕ} {src dst : List ℕ} {root goal : ℕ} {seen : List Bool} {via cur : List ℕ} where
   pub left_less : {before : List ℕ} {m : Move} {y : ℕ} → Turned nt np src dst root goal before seen via cur m → Under nt np src dst root goal seen via cur y → left np cur < left np before
   unfolding left
   left_less t u = omega (arith, t.further, upto_most (at cur) (np + 1) 122 (λ v l. u.low v))

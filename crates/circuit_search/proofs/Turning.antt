@@ -1,11 +1,12 @@
 -- The moves of the search on its arrays.
 use mathlib.Core.Path.{◌≡◌, ap, refl, sym, ◌∙◌, subst}
 use mathlib.Core.Logic.{◌≢◌}
+use mathlib.Core.Bool.{Bool, true, false}
 use mathlib.Core.List.{List, [], ◌++◌, ◌∷◌}
 use Prim.Native.Nat.{◌+◌, ◌<◌, ◌≤◌, ℕ}
 use native.Mathlib.Omega.{arith}
 use native.Mathlib.Decide.{dec_lt, ℕ_discrete}
-use lib.ListN.{length, length-set, set}
+use lib.ListN.{get_or, length, length-set, set}
 use lib.Seq.{get_or-set_other, get_or-set_same}
 use Rattle.marked.specs.Sums.{upto}
 use Rattle.marked.specs.Net.{at}
@@ -13,14 +14,17 @@ use Rattle.marked.proofs.Pigeonhole.{upto_less}
 use Rattle.circuit_tight.specs.helpers.Lists.{Threaded, Listed, Next, drawn}
 use Rattle.circuit_search.specs.helpers.Ways.{Cut, FirstNoted, Search, Trail}
 use Rattle.circuit_search.specs.helpers.Ways.Trail.{here, on}
-use Rattle.circuit_search.specs.helpers.Turns.{Under}
+use Rattle.circuit_search.specs.helpers.Turns.{Under, mark, marks}
 use Rattle.circuit_search.proofs.Trails.{none_left}
 use Rattle.circuit_search.proofs.Moves.{Popped, Put, pop, push, reached, skip}
 
 put_set : (l : List ℕ) (i v : ℕ) → i < length l → Put (at l) (at (set l i v)) i v
 put_set l i v h = record { new = get_or-set_same l i v 0 h; same = λ u f. get_or-set_other l i u v 0 f }
 
-module _ {nt np : ℕ} {next src dst : List ℕ} (k : Threaded nt np next src dst) {root goal : ℕ} {seen via cur : List ℕ} {x : ℕ} (u : Under nt np src dst root goal seen via cur x) where
+put_mark : (l : List Bool) (i : ℕ) → i < length l → Put (marks l) (marks (set l i true)) i 1
+put_mark l i h = record { new = ap mark (get_or-set_same l i true false h); same = λ u f. ap mark (get_or-set_other l i u true false f) }
+
+module _ {nt np : ℕ} {next src dst : List ℕ} (k : Threaded nt np next src dst) {root goal : ℕ} {seen : List Bool} {via cur : List ℕ} {x : ℕ} (u : Under nt np src dst root goal seen via cur x) where
   trail_in : {M N : ℕ → ℕ} {y : ℕ} {ts : List ℕ} → root < nt → Trail (drawn nt np src dst) (Listed dst) root goal M N y ts → y < nt
   trail_in l here = l
   trail_in l (on q t h i e b m n) = k.enters q h i
@@ -59,7 +63,7 @@ module _ {nt np : ℕ} {next src dst : List ℕ} (k : Threaded nt np next src ds
       pub no_way : x ≡ root → Cut (drawn nt np src dst) (Listed dst) root goal
       no_way r = none_left u.search (sym eq ∙ e) r
 
-      popped : x ≢ root → Popped (drawn nt np src dst) (Listed dst) root goal (at seen) (at via) (at (set cur x (np + 1))) x u.ts
+      popped : x ≢ root → Popped (drawn nt np src dst) (Listed dst) root goal (marks seen) (at via) (at (set cur x (np + 1))) x u.ts
       popped r = pop u.search.trail u.search (sym eq ∙ e) (put_set cur x (np + 1) (omega (arith, u.long, stands))) r
 
       pub noted_in : {r : ℕ} → x ≢ root → r ≡ at via x → r < np
@@ -71,7 +75,7 @@ module _ {nt np : ℕ} {next src dst : List ℕ} (k : Threaded nt np next src ds
           let z : p.place ≡ r = omega (arith, p.note) in
           record {
             ts = p.rest;
-            search = subst (λ (v : ℕ). Search (drawn nt np src dst) (Listed dst) root goal (at seen) (at via) (at (set cur x (np + 1))) v p.rest) (ap (at src) z ∙ sym ey) p.search;
+            search = subst (λ (v : ℕ). Search (drawn nt np src dst) (Listed dst) root goal (marks seen) (at via) (at (set cur x (np + 1))) v p.rest) (ap (at src) z ∙ sym ey) p.search;
             start = u.start;
             wide = u.wide;
             deep = u.deep;
@@ -99,10 +103,10 @@ module _ {nt np : ℕ} {next src dst : List ℕ} (k : Threaded nt np next src ds
       put : Put (at cur) (at (set cur x (at next q))) x (at next q)
       put = put_set cur x (at next q) (omega (arith, u.long, stands))
 
-      pub pass : {y : ℕ} → y ≡ at dst q → at seen y ≢ 0 → Under nt np src dst root goal seen via (set cur x (at next q)) x
+      pub pass : {y : ℕ} → y ≡ at dst q → get_or seen y false ≡ true → Under nt np src dst root goal seen via (set cur x (at next q)) x
       pass {y} ey n = record {
         ts = u.ts;
-        search = skip u.search (sym eq) put after (λ t l z. n (ap (at seen) ey ∙ z));
+        search = skip u.search (sym eq) put after (λ t l z. omega (arith, ap mark n, ap (marks seen) ey));
         start = u.start;
         wide = u.wide;
         deep = u.deep;
@@ -120,18 +124,18 @@ module _ {nt np : ℕ} {next src dst : List ℕ} (k : Threaded nt np next src ds
         noted : Put (at via) (at (set via y q)) (at dst q) q
         noted = subst (λ (z : ℕ). Put (at via) (at (set via y q)) z q) ey (put_set via y q (omega (arith, u.deep, leads)))
 
-        pub go_on : at seen y ≡ 0 → goal ≢ y → Under nt np src dst root goal (set seen y 1) (set via y q) (set cur x (at next q)) y
+        pub go_on : get_or seen y false ≡ false → goal ≢ y → Under nt np src dst root goal (set seen y true) (set via y q) (set cur x (at next q)) y
         go_on n w =
-            let marked : Put (at seen) (at (set seen y 1)) (at dst q) 1 = subst (λ (z : ℕ). Put (at seen) (at (set seen y 1)) z 1) ey (put_set seen y 1 (omega (arith, u.wide, leads))) in
-            let r = push u.search (sym eq) put after less tight leaves (rw ey at n) (λ z. w (z ∙ sym ey)) marked noted in
+            let marked : Put (marks seen) (marks (set seen y true)) (at dst q) 1 = subst (λ (z : ℕ). Put (marks seen) (marks (set seen y true)) z 1) ey (put_mark seen y (omega (arith, u.wide, leads))) in
+            let r = push u.search (sym eq) put after less tight leaves (sym (ap (marks seen) ey) ∙ ap mark n) (λ z. w (z ∙ sym ey)) marked noted in
             record {
               ts = u.ts ++ (q ∷ []);
               search = subst
-                  (λ (z : ℕ). Search (drawn nt np src dst) (Listed dst) root goal (at (set seen y 1)) (at (set via y q)) (at (set cur x (at next q))) z (u.ts ++ (q ∷ [])))
+                  (λ (z : ℕ). Search (drawn nt np src dst) (Listed dst) root goal (marks (set seen y true)) (at (set via y q)) (at (set cur x (at next q))) z (u.ts ++ (q ∷ [])))
                   (sym ey)
                   r;
               start = u.start;
-              wide = length-set seen y 1 ∙ u.wide;
+              wide = length-set seen y true ∙ u.wide;
               deep = length-set via y q ∙ u.deep;
               long = length-set cur x (at next q) ∙ u.long;
               low = low_next (omega (arith, after.most));

@@ -36,7 +36,7 @@ impl Ways<'_> {
         root: usize,
         goal: usize,
         x: usize,
-        seen: &mut [u8; TRANSITIONS],
+        seen: &mut [bool; TRANSITIONS],
         via: &mut [u16; TRANSITIONS],
         cur: &mut [u16; TRANSITIONS],
     ) -> Move
@@ -58,10 +58,10 @@ impl Ways<'_> {
             via[y] = q as u16;
             return Move::Reached;
         }
-        if seen[y] != 0 {
+        if seen[y] {
             return Move::At(x);
         }
-        seen[y] = 1;
+        seen[y] = true;
         via[y] = q as u16;
         Move::At(y)
     }
@@ -73,9 +73,9 @@ impl Ways<'_> {
     {
         let goal = usize::from(self.lists.src[p]);
         let root = usize::from(self.lists.dst[p]);
-        let mut seen = [0u8; TRANSITIONS];
+        let mut seen = [false; TRANSITIONS];
         let mut cur = self.lists.head;
-        seen[root] = 1;
+        seen[root] = true;
         let mut x = root;
         loop {
             match self.turn(root, goal, x, &mut seen, via, &mut cur) {

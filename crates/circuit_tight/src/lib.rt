@@ -39,6 +39,7 @@ impl Certificate<'_> {
 }
 
 // For each transition the first listed place that leaves it, and behind each listed place the next; and both ends of each listed place.
+// The number of places stands for none, as LOOSE does: an Option in every entry would double the arrays, and a call has 8 KiB of stack.
 #[derive(Drop)]
 pub struct Lists {
     pub head: [u16; TRANSITIONS],

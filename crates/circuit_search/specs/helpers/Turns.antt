@@ -1,5 +1,5 @@
 -- What a move of the search leads to, and what the search answers.
-use Rattle.std.specs.Prelude.{◌≡◌, Bool, true, false, Option, Some, None, List, ◌+◌, ◌<◌, ◌≤◌, ℕ, length}
+use Rattle.std.specs.Prelude.{◌≡◌, Bool, true, false, Option, Some, None, List, get_or, ◌+◌, ◌<◌, ◌≤◌, ℕ, length}
 use Rattle.marked.specs.Sums.{upto}
 use Rattle.marked.specs.Net.{at}
 use Rattle.net.specs.Limits.{most_transitions}
@@ -8,10 +8,18 @@ use Rattle.circuit_search.specs.helpers.Ways.{Cut, FirstNoted, Search}
 use Rattle.circuit_search.specs.declared.Move.{Move}
 use Rattle.circuit_search.specs.declared.Move.TheVariants.{At, GivenUp, Reached}
 
+-- The marks as numbers: 1 for a transition that has been met.
+abbrev pub mark : Bool → ℕ
+mark true = 1
+mark false = 0
+
+abbrev pub marks : List Bool → ℕ → ℕ
+marks seen v = mark (get_or seen v false)
+
 -- The search stands at x with these arrays.
-pub record Under (nt np : ℕ) (src dst : List ℕ) (root goal : ℕ) (seen via cur : List ℕ) (x : ℕ) : Type 0 where
+pub record Under (nt np : ℕ) (src dst : List ℕ) (root goal : ℕ) (seen : List Bool) (via cur : List ℕ) (x : ℕ) : Type 0 where
   pub ts : List ℕ
-  pub search : Search (drawn nt np src dst) (Listed dst) root goal (at seen) (at via) (at cur) x ts
+  pub search : Search (drawn nt np src dst) (Listed dst) root goal (marks seen) (at via) (at cur) x ts
   pub start : root < nt
   pub wide : length seen ≡ most_transitions
   pub deep : length via ≡ most_transitions
@@ -19,13 +27,13 @@ pub record Under (nt np : ℕ) (src dst : List ℕ) (root goal : ℕ) (seen via 
   pub low : (v : ℕ) → at cur v ≤ np + 1
 
 -- What a move answers.
-pub data MoveEnds (nt np : ℕ) (src dst : List ℕ) (root goal : ℕ) (seen via cur : List ℕ) : Move → Type 0 where
+pub data MoveEnds (nt np : ℕ) (src dst : List ℕ) (root goal : ℕ) (seen : List Bool) (via cur : List ℕ) : Move → Type 0 where
   moved : {y : ℕ} → Under nt np src dst root goal seen via cur y → MoveEnds nt np src dst root goal seen via cur (At y)
   got : FirstNoted (drawn nt np src dst) (Listed dst) root goal (at via) → length via ≡ most_transitions → MoveEnds nt np src dst root goal seen via cur Reached
   gone : Cut (drawn nt np src dst) (Listed dst) root goal → length via ≡ most_transitions → MoveEnds nt np src dst root goal seen via cur GivenUp
 
 -- After a move some transition has come further than in `before`.
-pub record Turned (nt np : ℕ) (src dst : List ℕ) (root goal : ℕ) (before seen via cur : List ℕ) (r : Move) : Type 0 where
+pub record Turned (nt np : ℕ) (src dst : List ℕ) (root goal : ℕ) (before : List ℕ) (seen : List Bool) (via cur : List ℕ) (r : Move) : Type 0 where
   pub outcome : MoveEnds nt np src dst root goal seen via cur r
   pub further : upto (at before) most_transitions < upto (at cur) most_transitions
 

@@ -34,10 +34,10 @@ pub bounds-seen-y : goal.bounds-seen-y
 bounds-seen-y c =
     omega (arith, leads_in c.args.self.now.threaded c.requires c.from-q.ensures c.if-q-self.false c.from-y.ensures, c.args.self.now.threaded.few, c.requires.wide)
 
-pub returns-then-seen-y-ne0 : goal.returns-then-seen-y-ne0
-returns-then-seen-y-ne0 c =
+pub returns-then-seen-y : goal.returns-then-seen-y
+returns-then-seen-y c =
     let next = beyond c.args.self.now.threaded c.requires c.from-q.ensures c.if-q-self.false in
-    let past = pass c.args.self.now.threaded c.requires c.from-q.ensures c.if-q-self.false c.from-y.ensures c.if-seen-y-ne0.true in
+    let past = pass c.args.self.now.threaded c.requires c.from-q.ensures c.if-q-self.false c.from-y.ensures c.if-seen-y.true in
     record { outcome = moved past; further = further c.args.self.now.threaded c.requires next }
 
 pub bounds-seen-y-2 : goal.bounds-seen-y-2
@@ -51,5 +51,5 @@ bounds-via-y-2 c =
 pub returns : goal.returns
 returns c =
     let next = beyond c.args.self.now.threaded c.requires c.from-q.ensures c.if-q-self.false in
-    let onward = go_on c.args.self.now.threaded c.requires c.from-q.ensures c.if-q-self.false c.from-y.ensures c.if-seen-y-ne0.false (λ z. c.if-y-goal.false (sym z)) in
+    let onward = go_on c.args.self.now.threaded c.requires c.from-q.ensures c.if-q-self.false c.from-y.ensures c.if-seen-y.false (λ z. c.if-y-goal.false (sym z)) in
     record { outcome = moved onward; further = further c.args.self.now.threaded c.requires next }
