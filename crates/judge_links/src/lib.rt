@@ -30,7 +30,7 @@ fn tick(e: usize, ends: &[u8; EDGES]) -> [u8; NODES]
 fn bound(n: usize, node: usize, out: u8, into: u8) -> bool
     ensures { Says (Bound n node out into) result }
 {
-    (n < node || out == 1) && (node == 0 || into == 1)
+    (node == 0 || into == 1) && (n < node || out == 1)
 }
 
 // The lowest node that lacks an edge out or in.

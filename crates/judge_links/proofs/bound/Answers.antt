@@ -10,15 +10,15 @@ use Rattle.refusal.specs.helpers.Answers.{Says, fails, holds}
 use Rattle.judge_links.specs.helpers.Ticks.{Bound}
 use Rattle.judge_links.proofs.bound.Goals as goal
 
-bound_said : {n node out into : ℕ} {r : Bool} → r ≡ ((ltb n node || eqb out 1) && (eqb node 0 || eqb into 1)) → Says (Bound n node out into) r
+bound_said : {n node out into : ℕ} {r : Bool} → r ≡ ((eqb node 0 || eqb into 1) && (ltb n node || eqb out 1)) → Says (Bound n node out into) r
 bound_said {n} {node} {out} {into} {r = true} e = holds (record { leaves = λ l. grind (arith, nat_tests); enters = λ l. grind (arith, nat_tests) })
 bound_said {n} {node} {out} {into} {r = false} e = fails (λ b. grind (arith, nat_tests))
 
-pub returns-then-node-eq0 : goal.returns-then-node-eq0
-returns-then-node-eq0 c = bound_said (search rules)
+pub returns-then-n-node : goal.returns-then-n-node
+returns-then-n-node c = bound_said (search rules)
 
-pub returns-else-node-eq0 : goal.returns-else-node-eq0
-returns-else-node-eq0 c = bound_said (search rules)
+pub returns-else-n-node : goal.returns-else-n-node
+returns-else-n-node c = bound_said (search rules)
 
-pub returns-else-out-eq1 : goal.returns-else-out-eq1
-returns-else-out-eq1 c = bound_said (search rules)
+pub returns-else-into-eq1 : goal.returns-else-into-eq1
+returns-else-into-eq1 c = bound_said (search rules)
