@@ -17,7 +17,7 @@ fn allowed(n: usize, from: u8, to: u8, mark: u8, fourth: u8) -> bool
     usize::from(from) <= n && (1..=n + 1).contains(&usize::from(to)) && mark <= 1 && fourth == 0
 }
 
-// Whether the extremes of every row are allowed: then every edge is.
+// Whether the extremes of every row are allowed: then every edge is. The rows come one by one: lent `Rows` would ask for the least counts too.
 fn plain<'a>(
     n: usize,
     e: usize,
@@ -39,6 +39,7 @@ fn plain<'a>(
         )
 }
 
+// The rows come one by one here too, so that `first_wrong` asks for no more than the largest counts.
 pub fn first_wrong<'a>(
     n: usize,
     e: usize,

@@ -14,13 +14,14 @@ fn timely(time: u32) -> bool
     (SHORTEST_TIME..=TIME).contains(&time)
 }
 
+// The operation of row k is k + 1.
 pub fn first_late(n: usize, times: &[u32; OPERATIONS]) -> Option<usize>
     requires { n ≤ most_operations }
     ensures { Finds (row5 (rows n 0 times.now [] [] [] [])) result }
 {
-    for i in 1..n + 1 {
-        if !timely(times[i - 1]) {
-            return Some(i);
+    for (row, &time) in times[..n].iter().enumerate() {
+        if !timely(time) {
+            return Some(row + 1);
         }
     }
     None

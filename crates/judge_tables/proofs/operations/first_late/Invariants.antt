@@ -2,8 +2,8 @@
 use Rattle.net.specs.Rules.{Operation, Timely}
 use Rattle.net.specs.Plan.{rows}
 use mathlib.Core.List.{[]}
-use Prim.Native.Nat.{ℕ, ◌<◌}
+use Prim.Native.Nat.{ℕ, ◌≤◌}
 use Rattle.judge_tables.proofs.operations.first_late.Given as goal
 
-abbrev pub invariant-loop-i : goal.invariant-loop-i
-invariant-loop-i l = (y : ℕ) → y < l.i → Operation (rows l.n 0 l.times [] [] [] []) y → Timely (rows l.n 0 l.times [] [] [] []) y
+abbrev pub invariant-loop-row : goal.invariant-loop-row
+invariant-loop-row l = (y : ℕ) → y ≤ l.row → Operation (rows l.n 0 l.times [] [] [] []) y → Timely (rows l.n 0 l.times [] [] [] []) y
