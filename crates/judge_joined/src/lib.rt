@@ -12,7 +12,7 @@ use net::NODES;
 use net::wiring::Wiring;
 
 // Where one end of edge k is marked, the other is marked too. The answer is whether a node has been marked, now or before.
-fn spread(g: &Wiring, k: usize, seen: &mut [u8; NODES], changed: bool) -> bool
+fn spread(g: &Wiring, k: usize, seen: &mut [bool; NODES], changed: bool) -> bool
     requires reached { Reached g.now.edges g.now.from.now g.now.to.now seen.old }
     requires k_lt_e { k < g.now.edges }
     ensures { Spread g.now.edges g.now.from.now g.now.to.now k seen.old changed seen.new result }
@@ -22,13 +22,13 @@ fn spread(g: &Wiring, k: usize, seen: &mut [u8; NODES], changed: bool) -> bool
     if seen[a] == seen[b] {
         return changed;
     }
-    seen[a] = 1;
-    seen[b] = 1;
+    seen[a] = true;
+    seen[b] = true;
     true
 }
 
 // Every edge once.
-fn pass(g: &Wiring, seen: &mut [u8; NODES]) -> bool
+fn pass(g: &Wiring, seen: &mut [bool; NODES]) -> bool
     requires { Reached g.now.edges g.now.from.now g.now.to.now seen.old }
     ensures { Passed g.now.edges g.now.from.now g.now.to.now g.now.edges seen.old seen.new result }
 {
@@ -40,7 +40,7 @@ fn pass(g: &Wiring, seen: &mut [u8; NODES]) -> bool
 }
 
 // Edge k, if there is such an edge.
-fn lead_by(g: &Wiring, k: usize, seen: &mut [u8; NODES])
+fn lead_by(g: &Wiring, k: usize, seen: &mut [bool; NODES])
     requires { Reached g.now.edges g.now.from.now g.now.to.now seen.old }
     ensures { Led g.now.edges g.now.from.now g.now.to.now seen.old seen.new }
 {
@@ -50,7 +50,7 @@ fn lead_by(g: &Wiring, k: usize, seen: &mut [u8; NODES])
 }
 
 // The edges of a tour, in its order.
-fn lead(g: &Wiring, by: &[u8; NODES], seen: &mut [u8; NODES])
+fn lead(g: &Wiring, by: &[u8; NODES], seen: &mut [bool; NODES])
     requires { Reached g.now.edges g.now.from.now g.now.to.now seen.old }
     ensures { Led g.now.edges g.now.from.now g.now.to.now seen.old seen.new }
 {
@@ -61,11 +61,11 @@ fn lead(g: &Wiring, by: &[u8; NODES], seen: &mut [u8; NODES])
 
 // The nodes that are joined to the source. Two passes are enough where edges stand in a good order. Where the second still marked a node, the marks
 // spread along a tour, and passes follow until one marks nothing.
-fn reach(g: &Wiring) -> [u8; NODES]
+fn reach(g: &Wiring) -> [bool; NODES]
     ensures { Marks g.now.edges g.now.from.now g.now.to.now result }
 {
-    let mut seen = [0u8; NODES];
-    seen[0] = 1;
+    let mut seen = [false; NODES];
+    seen[0] = true;
     if pass(g, &mut seen) && pass(g, &mut seen) {
         let by = tour(g);
         lead(g, &by, &mut seen);
@@ -80,7 +80,7 @@ pub fn first_apart(g: &Wiring) -> Option<usize>
 {
     let seen = reach(g);
     for node in 0..g.operations + 2 {
-        if seen[node] != 1 {
+        if !seen[node] {
             return Some(node);
         }
     }
