@@ -79,10 +79,5 @@ pub fn first_apart(g: &Wiring) -> Option<usize>
     ensures { Finds (row8 (wires_of g.now)) result }
 {
     let seen = reach(g);
-    for node in 0..g.operations + 2 {
-        if !seen[node] {
-            return Some(node);
-        }
-    }
-    None
+    seen[..g.operations + 2].iter().position(|met| !*met)
 }
