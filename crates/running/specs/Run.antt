@@ -1,9 +1,8 @@
 -- A run (document 01): its entries one after the other, up to the first refused.
-use Rattle.std.specs.Prelude.{List, [], ◌∷◌, suc, ℕ}
+use Rattle.std.specs.Prelude.{List, [], ◌∷◌, suc, ℕ, Err, Ok}
 use Rattle.refusal.specs.declared.Refusal.{Refusal}
 use Rattle.marked.specs.Net.{Net}
 use Rattle.firing.specs.Step.{Steps}
-use Rattle.std.specs.Prelude.{Err, Ok}
 use Rattle.refusal.specs.Asking.{Verdict}
 
 -- A run of a list: its entries one after the other, each from the bytes that the one before left, up to the first refused; how many fired,

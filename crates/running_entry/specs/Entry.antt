@@ -1,11 +1,10 @@
 -- One entry of a run (document 01): the record and the marking before it, its answer, and both after it.
-use Rattle.std.specs.Prelude.{◌≡◌, List, ◌*◌, ◌+◌, ◌<◌, ℕ, length}
+use Rattle.std.specs.Prelude.{◌≡◌, List, ◌*◌, ◌+◌, ◌<◌, ℕ, length, Err, Ok}
 use Rattle.marked.specs.Net.{Net, at}
 use Rattle.net.specs.Plan.{wires}
 use Rattle.net.specs.Graph.{net_of}
 use Rattle.firing.specs.Step.{Steps}
 use Rattle.running_entry.specs.declared.RunRecord.{RunRecord}
-use Rattle.std.specs.Prelude.{Err, Ok}
 use Rattle.refusal.specs.Asking.{Verdict}
 
 -- The record after an answer: a firing moves the list position and the count, a refusal keeps both.

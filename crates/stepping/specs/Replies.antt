@@ -1,5 +1,5 @@
 -- What `start`, `step` and `run` reply (document 01, "Calls and refusals"), over look's reply, and the bytes that they leave.
-use Rattle.std.specs.Prelude.{◌≡◌, List, ◌<◌, ℕ}
+use Rattle.std.specs.Prelude.{◌≡◌, List, ◌<◌, ℕ, Err, Ok}
 use Rattle.refusal.specs.declared.Refusal.{Refusal}
 use Rattle.marked.specs.Net.{at}
 use Rattle.net.specs.Plan.{Plan}
@@ -11,7 +11,6 @@ use Rattle.accepting.specs.Rows.{BytePerPlace, run_rows, start_rows}
 use Rattle.firing.specs.Step.{Steps}
 use Rattle.running.specs.declared.repeat.Ran.{Ran}
 use Rattle.running.specs.Run.{Runs}
-use Rattle.std.specs.Prelude.{Err, Ok}
 use Rattle.refusal.specs.Asking.{Verdict}
 
 -- The bytes z are the starting marking of a graph: one byte a place, its tokens at the start.

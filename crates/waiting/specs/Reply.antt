@@ -1,5 +1,5 @@
 -- What wait replies (document 01, "Calls and refusals"), over look's reply. Nothing is written.
-use Rattle.std.specs.Prelude.{List, ℕ}
+use Rattle.std.specs.Prelude.{List, ℕ, Err, Ok, Result}
 use Rattle.refusal.specs.declared.Refusal.{Refusal}
 use Rattle.marked.specs.Net.{at}
 use Rattle.marked.specs.Wait.{WaitSum}
@@ -8,7 +8,6 @@ use Rattle.reader.specs.Reply.{shown}
 use Rattle.reader.specs.Outcome.{Ends, accepted, refusal}
 use Rattle.reader.specs.declared.graph.Graph.{Graph}
 use Rattle.accepting.specs.Rows.{wait_rows}
-use Rattle.std.specs.Prelude.{Err, Ok, Result}
 
 -- `wait` of a file f, a marking m and a transition t: a refusal is given, 1 to 12; or, of look's graph, the sum over the other transitions of the
 -- fewest tokens on a walk from t to them.

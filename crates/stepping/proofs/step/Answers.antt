@@ -1,7 +1,6 @@
 -- Look's refusal as it stands; else the step in look's graph, which is good.
 use Rattle.std.proofs.lemmas.Result.{err_from_is_err_and}
 use Rattle.reader.proofs.Accepting.{accepted_good}
-use Rattle.accepting.proofs.Judging.{good_wiring}
 use Rattle.stepping.proofs.Answers.{step_reply, step_unread}
 use Rattle.stepping.proofs.step.Goals as goal
 
@@ -12,9 +11,6 @@ returns-in_err-g c =
 
 pub lend-requires : goal.lend-requires
 lend-requires c = accepted_good c.args.file.now c.in_ok-g.ensures
-
-pub step_graph-requires : goal.step_graph-requires
-step_graph-requires c = good_wiring c.lend.ensures.good
 
 pub returns : goal.returns
 returns c = step_reply c.in_ok-g.ensures c.lend.result c.lend.ensures.plan c.step_graph.ensures

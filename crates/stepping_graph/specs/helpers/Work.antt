@@ -1,5 +1,5 @@
 -- What the helpers of `start`, `step` and `run` answer for a graph that look has accepted.
-use Rattle.std.specs.Prelude.{◌≡◌, List, ◌*◌, ◌+◌, ℕ, length}
+use Rattle.std.specs.Prelude.{◌≡◌, List, ◌*◌, ◌+◌, ℕ, length, Err, Ok}
 use Rattle.refusal.specs.Asking.{Given, Sound, Verdict}
 use Rattle.refusal.specs.declared.Refusal.{Refusal}
 use Rattle.net.specs.Plan.{Plan}
@@ -9,7 +9,6 @@ use Rattle.accepting.specs.Rows.{run_rows}
 use Rattle.firing.specs.Step.{Steps}
 use Rattle.running.specs.declared.repeat.Ran.{Ran}
 use Rattle.running.specs.Run.{Runs}
-use Rattle.std.specs.Prelude.{Err, Ok}
 use Rattle.refusal.specs.declared.Reason.TheVariants.{Marking}
 
 -- The buffer has one byte a place and is filled, or 10 is given.

@@ -1,7 +1,6 @@
 -- Look's refusal as it stands; else the reply for look's graph, which is good.
 use Rattle.std.proofs.lemmas.Result.{err_from_is_err_and}
 use Rattle.reader.proofs.Accepting.{accepted_good}
-use Rattle.accepting.proofs.Judging.{good_wiring}
 use Rattle.waiting.proofs.Answers.{ended_reply, unread_reply}
 use Rattle.waiting.proofs.wait.Goals as goal
 
@@ -12,9 +11,6 @@ returns-in_err-g c =
 
 pub lend-requires : goal.lend-requires
 lend-requires c = accepted_good c.args.file.now c.in_ok-g.ensures
-
-pub answer-requires : goal.answer-requires
-answer-requires c = good_wiring c.lend.ensures.good
 
 pub returns : goal.returns
 returns c = ended_reply c.lend.result c.in_ok-g.ensures c.lend.ensures.plan c.answer.ensures
