@@ -17,14 +17,14 @@ fn allowed(n: usize, from: u8, to: u8, mark: u8, fourth: u8) -> bool
     usize::from(from) <= n && (1..=n + 1).contains(&usize::from(to)) && mark <= 1 && fourth == 0
 }
 
-// Whether the extremes of every row are allowed: then every edge is. The rows come one by one: lent `Rows` would ask for the least counts too.
-fn plain<'a>(
+// Whether the extremes of every row are allowed: then every edge is.
+fn plain(
     n: usize,
     e: usize,
-    from: &'a [u8; EDGES],
-    to: &'a [u8; EDGES],
-    mark: &'a [u8; EDGES],
-    buffers: &'a [u8; EDGES],
+    from: &[u8; EDGES],
+    to: &[u8; EDGES],
+    mark: &[u8; EDGES],
+    buffers: &[u8; EDGES],
 ) -> bool
     requires { (n ≤ most_operations) × (e ≤ most_edges) }
     ensures { result ≡ true → Kept (row6 (rows n e [] from.now to.now mark.now buffers.now)) }
@@ -39,14 +39,14 @@ fn plain<'a>(
         )
 }
 
-// The rows come one by one here too, so that `first_wrong` asks for no more than the largest counts.
-pub fn first_wrong<'a>(
+// The lowest edge that is not allowed. It asks for no least counts, as a lent `Rows` would, so its rows come one by one.
+pub fn first_wrong(
     n: usize,
     e: usize,
-    from: &'a [u8; EDGES],
-    to: &'a [u8; EDGES],
-    mark: &'a [u8; EDGES],
-    buffers: &'a [u8; EDGES],
+    from: &[u8; EDGES],
+    to: &[u8; EDGES],
+    mark: &[u8; EDGES],
+    buffers: &[u8; EDGES],
 ) -> Option<usize>
     requires { (n ≤ most_operations) × (e ≤ most_edges) }
     ensures { Finds (row6 (rows n e [] from.now to.now mark.now buffers.now)) result }

@@ -14,7 +14,7 @@ fn timely(time: u32) -> bool
     (SHORTEST_TIME..=TIME).contains(&time)
 }
 
-// The operation of row k is k + 1.
+// The lowest operation whose time is outside its limits: row k is operation k + 1.
 pub fn first_late(n: usize, times: &[u32; OPERATIONS]) -> Option<usize>
     requires { n ≤ most_operations }
     ensures { Finds (row5 (rows n 0 times.now [] [] [] [])) result }
