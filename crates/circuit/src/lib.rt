@@ -12,7 +12,7 @@ ghost use Rattle.tbo.specs.helpers.LargestBy.{LargestBy};
 ghost use Rattle.circuit.specs.Chosen.{Handed};
 
 use circuit_search::Ways;
-use circuit_tight::{Certificate, LOOSE, Lists};
+use circuit_tight::{Certificate, Entry, LOOSE, Lists};
 use fraction::load::{Load, Rate};
 use net::{PLACES, TRANSITIONS};
 
@@ -27,9 +27,11 @@ pub fn choose(g: &Load, rate: Rate, d: &[u64; TRANSITIONS], ring: &mut [u16]) ->
     let places = g.wiring.places();
     let mut lists = Lists {
         head: [places as u16; TRANSITIONS],
-        next: [0; PLACES],
-        src: [0; PLACES],
-        dst: [LOOSE; PLACES],
+        entries: [Entry {
+            next: 0,
+            source: 0,
+            target: LOOSE,
+        }; PLACES],
     };
     lists.list_tight(&Certificate {
         load: *g,

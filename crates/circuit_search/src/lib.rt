@@ -2,6 +2,7 @@
 #![tactic(auto)]
 
 ghost use Rattle.circuit_tight.specs.helpers.Lists.{Headed, Threaded};
+ghost use Rattle.circuit_tight.specs.helpers.Entries.{nexts, sources, targets};
 
 use circuit_tight::{LOOSE, Lists};
 use net::TRANSITIONS;
@@ -12,8 +13,8 @@ pub struct Ways<'a> {
     pub transitions: usize,
     pub places: usize,
     pub lists: &'a Lists,
-    pub ghost threaded: { Threaded transitions places lists.now.next lists.now.src lists.now.dst },
-    pub ghost headed: { Headed transitions places lists.now.head lists.now.src lists.now.dst },
+    pub ghost threaded: { Threaded transitions places (nexts lists.now.entries) (sources lists.now.entries) (targets lists.now.entries) },
+    pub ghost headed: { Headed transitions places lists.now.head (sources lists.now.entries) (targets lists.now.entries) },
 }
 
 // What a move leads to: another transition, the goal, or nowhere.
@@ -50,10 +51,10 @@ impl Ways<'_> {
                 return Move::GivenUp;
             }
             let p = usize::from(via[x]);
-            return Move::At(usize::from(self.lists.src[p]));
+            return Move::At(usize::from(self.lists.entries[p].source));
         }
-        cur[x] = self.lists.next[q];
-        let y = usize::from(self.lists.dst[q]);
+        cur[x] = self.lists.entries[q].next;
+        let y = usize::from(self.lists.entries[q].target);
         if y == goal {
             via[y] = q as u16;
             return Move::Reached;
@@ -68,11 +69,11 @@ impl Ways<'_> {
 
     // The first way from where p leads to back to where it leaves, noted in via: whether there is one.
     fn search(&self, p: usize, via: &mut [u16; TRANSITIONS]) -> bool
-        requires { (p < self.now.places) × Listed self.now.lists.now.dst p }
+        requires { (p < self.now.places) × Listed (targets self.now.lists.now.entries) p }
         ensures { of_ways Sought self.now p via.new result }
     {
-        let goal = usize::from(self.lists.src[p]);
-        let root = usize::from(self.lists.dst[p]);
+        let goal = usize::from(self.lists.entries[p].source);
+        let root = usize::from(self.lists.entries[p].target);
         let mut seen = [false; TRANSITIONS];
         let mut cur = self.lists.head;
         seen[root] = true;
@@ -91,7 +92,7 @@ impl Ways<'_> {
         requires { p < self.now.places }
         ensures { of_ways Tried self.now p via.new result }
     {
-        if self.lists.dst[p] == LOOSE {
+        if self.lists.entries[p].target == LOOSE {
             return false;
         }
         self.search(p, via)

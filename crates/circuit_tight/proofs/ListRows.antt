@@ -11,7 +11,7 @@ use Rattle.net.specs.Limits.{most_places, most_transitions}
 use Rattle.fraction.specs.helpers.Loaded.{Weighted, loaded}
 use Rattle.fraction.proofs.Loads.{weighted_proper}
 use Rattle.circuit_tight.specs.helpers.Lists.{Lengthened, Listing, TightIn, Whole}
-use Rattle.circuit_tight.proofs.Listings.{longer_past, longer_put}
+use Rattle.circuit_tight.proofs.Listings.{longer_put}
 
 module _ {n e : ℕ} {from to marking times : List ℕ} (ok : Weighted n e from to marking times) where
   few : 3 * n + 2 ≤ most_transitions

@@ -5,6 +5,7 @@ ghost use Rattle.std.specs.Prelude.{ℕ, ◌≤◌};
 ghost use Rattle.marked.specs.Net.{at};
 ghost use Rattle.fraction.specs.helpers.Loaded.{highest};
 ghost use Rattle.circuit_tight.specs.helpers.Lists.{Whole};
+ghost use Rattle.circuit_tight.specs.helpers.Entries.{nexts, sources, targets};
 
 use fraction::load::{Load, Rate};
 use net::{PLACES, TRANSITIONS};
@@ -38,15 +39,21 @@ impl Certificate<'_> {
     }
 }
 
-// For each transition the first listed place that leaves it, and behind each listed place the next; and both ends of each listed place.
-// The number of places stands for none, as LOOSE does: an Option in every entry would double the arrays, and a call has 8 KiB of stack.
+// A place as it is listed: the next one that leaves the same transition, and both its ends.
+#[derive(Clone, Copy)]
+pub struct Entry {
+    pub next: u16,
+    pub source: u8,
+    pub target: u8,
+}
+
+// For each transition the first listed place that leaves it, and an entry for each place.
+// The number of places stands for none, as LOOSE does: options would widen every entry, and a call has 8 KiB of stack.
 #[derive(Drop)]
 pub struct Lists {
     pub head: [u16; TRANSITIONS],
-    pub next: [u16; PLACES],
-    pub src: [u8; PLACES],
-    pub dst: [u8; PLACES],
-    pub ghost whole: { Whole head next src dst },
+    pub entries: [Entry; PLACES],
+    pub ghost whole: { Whole head (nexts entries) (sources entries) (targets entries) },
 }
 
 impl Lists {
@@ -63,10 +70,12 @@ impl Lists {
         if !c.is_tight(s, t, p) {
             return;
         }
-        self.next[p] = self.head[s];
+        self.entries[p] = Entry {
+            next: self.head[s],
+            source: s as u8,
+            target: t as u8,
+        };
         self.head[s] = p as u16;
-        self.src[p] = s as u8;
-        self.dst[p] = t as u8;
     }
 
     // The three places of the operation in row i, the last first.

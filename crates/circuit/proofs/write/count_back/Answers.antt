@@ -2,6 +2,7 @@
 use lib.ListN.{length}
 use mathlib.Core.Path.{ap}
 use native.Mathlib.Omega.{arith}
+use Rattle.circuit_tight.proofs.Entries.{source_told}
 use Rattle.circuit.proofs.Climbs.{climb_end, climb_in, climb_more, climb_on, climb_place, climb_start}
 use Rattle.circuit.proofs.write.count_back.Goals as goal
 
@@ -28,7 +29,7 @@ loop-x-smaller c =
 pub loop-x-preserved : goal.loop-x-preserved
 loop-x-preserved c =
     let loop-test = c.loop-x-test in
-    (climb_on c.loop-x.invariant.0 loop-test.true c.from-q.ensures c.from-x.ensures, omega (arith, c.loop-x.invariant.1))
+    (climb_on c.loop-x.invariant.0 loop-test.true c.from-q.ensures (source_told c.args.w.now.lists.now.entries c.from-q.result c.from-x.ensures), omega (arith, c.loop-x.invariant.1))
 
 pub returns : goal.returns
 returns c =

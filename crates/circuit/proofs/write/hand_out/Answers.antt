@@ -2,12 +2,14 @@
 use mathlib.Core.Path.{ap, refl, ◌∙◌}
 use native.Mathlib.Omega.{arith}
 use Rattle.marked.specs.Net.{at}
+use Rattle.circuit_tight.specs.helpers.Entries.{sources}
+use Rattle.circuit_tight.proofs.Entries.{source_told, target_told}
 use Rattle.circuit.proofs.Climbs.{climb_in, climb_place}
 use Rattle.circuit.proofs.Fills.{fill_end, fill_left, fill_on, fill_start, root_apart, root_in}
 use Rattle.circuit.proofs.write.hand_out.Goals as goal
 
 pub loop-x-init : goal.loop-x-init
-loop-x-init c = fill_start (root_in c.args.w.now.threaded c.requires.lowest_back.inside c.requires.lowest_back.listed c.from-root.ensures) c.count_back-len.ensures
+loop-x-init c = fill_start (root_in c.args.w.now.threaded c.requires.lowest_back.inside c.requires.lowest_back.listed (target_told c.args.w.now.lists.now.entries c.args.p c.from-root.ensures)) c.count_back-len.ensures
 
 pub offset_bounds-via-x : goal.offset_bounds-via-x
 offset_bounds-via-x c =
@@ -33,9 +35,9 @@ bounds-w-from c =
 
 pub loop-x-preserved : goal.loop-x-preserved
 loop-x-preserved c =
-    fill_on c.args.w.now.threaded c.loop-x.invariant c.requires.room c.loop-x-test.true refl (c.from-x.ensures ∙ ap (at c.args.w.now.lists.now.src) c.from.ensures)
+    fill_on c.args.w.now.threaded c.loop-x.invariant c.requires.room c.loop-x-test.true refl (source_told c.args.w.now.lists.now.entries c.from.result c.from-x.ensures ∙ ap (at (sources c.args.w.now.lists.now.entries)) c.from.ensures)
 
 pub returns : goal.returns
 returns c =
-    let apart = root_apart c.args.w.now.threaded c.requires.lowest_back.inside c.requires.lowest_back.listed c.from-root.ensures c.from-goal.ensures in
-    fill_end c.args.w.now.threaded c.loop-x.invariant c.requires.room c.from-root.ensures c.from-goal.ensures apart c.loop-x-test.false
+    let apart = root_apart c.args.w.now.threaded c.requires.lowest_back.inside c.requires.lowest_back.listed (target_told c.args.w.now.lists.now.entries c.args.p c.from-root.ensures) (source_told c.args.w.now.lists.now.entries c.args.p c.from-goal.ensures) in
+    fill_end c.args.w.now.threaded c.loop-x.invariant c.requires.room (target_told c.args.w.now.lists.now.entries c.args.p c.from-root.ensures) (source_told c.args.w.now.lists.now.entries c.args.p c.from-goal.ensures) apart c.loop-x-test.false
