@@ -31,25 +31,27 @@ fn numbered(g: &Wiring, i: usize) -> Item
     Item::Operation((i - g.edges) as u8)
 }
 
-// From which transition to which the item's places without a token lead: an operation's from its read on, an edge's from a write to a read where its
-// full place has none, else back.
-fn way(g: &Wiring, marking: &[u8; PLACES], x: Item) -> (usize, usize)
+// Where the item's places without a token come from, or where they lead (`onward`): an operation's from its read to its next, an edge's from a write to
+// a read where its full place has none, else back.
+fn end(g: &Wiring, marking: &[u8; PLACES], x: Item, onward: bool) -> usize
     requires { ItemOf g.now.operations g.now.edges x }
-    ensures { (result.0 < most_transitions) × (result.1 < most_transitions) }
+    ensures { result < most_transitions }
 {
     match x {
         Item::Operation(i) => {
             let p = 3 * usize::from(i);
-            (p + 1, p + 3)
+            if onward {
+                return p + 3;
+            }
+            p + 1
         }
         Item::Edge(k) => {
             let k = usize::from(k);
-            let writer = g.writer(k);
-            let reader = g.reader(k);
-            if marking[3 * g.operations + 2 * k] == 0 {
-                return (writer, reader);
+            let ahead = marking[3 * g.operations + 2 * k] == 0;
+            if ahead == onward {
+                return g.reader(k);
             }
-            (reader, writer)
+            g.writer(k)
         }
     }
 }
@@ -61,77 +63,85 @@ fn ready(force: bool, waits: u8) -> bool
     force || waits == 0
 }
 
-// The items that are left, and how many of them lead to each transition. A pass goes over the first `count`: `kept` of them are kept for the next one,
-// and `put` items are in order by then.
+// How many items are kept for the next pass, and how many are in order.
+#[derive(Clone, Copy)]
+pub struct Taken {
+    pub kept: usize,
+    pub put: usize,
+}
+
+// The items that are left, and how many of them lead to each transition.
 #[derive(Drop)]
 struct Queue {
     wait: [u8; TRANSITIONS],
     left: [Item; ITEMS],
-    count: usize,
-    kept: usize,
-    put: usize,
 }
 
 impl Queue {
-    // All items, kept for the first pass.
+    // All items.
     fn enlist(&mut self, g: &Wiring, marking: &[u8; PLACES])
         requires left_len { length self.old.left ≡ most_items }
-        ensures all { Enlisted g.now.operations g.now.edges (g.now.operations + g.now.edges) self.new.left }
-        ensures kept { self.new.kept ≡ g.now.operations + g.now.edges }
-        ensures put { self.new.put ≡ 0 }
+        ensures { Enlisted g.now.operations g.now.edges (g.now.operations + g.now.edges) self.new.left }
     {
-        let all = g.operations + g.edges;
-        for i in 0..all {
+        for i in 0..g.operations + g.edges {
             let x = numbered(g, i);
             self.left[i] = x;
-            let (_, t) = way(g, marking, x);
+            let t = end(g, marking, x, true);
             self.wait[t] = self.wait[t].saturating_add(1);
         }
-        self.kept = all;
-        self.put = 0;
     }
 
-    // The item at i goes to the end of the order, or is kept.
+    // The item at i of l goes to the end of the order, or is kept. (The counts are no fields, so that a pass has them in registers.)
     fn take(
         &mut self,
         g: &Wiring,
         marking: &[u8; PLACES],
         force: bool,
         i: usize,
+        l: usize,
+        so_far: Taken,
         ord: &mut [Item; ITEMS],
-    )
-        requires i_lt_count { i < self.old.count }
+    ) -> Taken
+        requires i_lt_l { i < l }
         requires sorting { Sorting g.now.operations g.now.edges self.old.left ord.old
-            i self.old.count self.old.kept self.old.put }
-        ensures took { Took g.now.operations g.now.edges self.new.left ord.new
-            force i self.old.count self.old.kept self.new.kept self.new.put }
-        ensures count { self.new.count ≡ self.old.count }
+            i l so_far.kept so_far.put }
+        ensures { Took g.now.operations g.now.edges self.new.left ord.new
+            force i l so_far.kept result.kept result.put }
     {
+        let Taken { kept, put } = so_far;
         let x = self.left[i];
-        let (s, t) = way(g, marking, x);
-        if ready(force, self.wait[s]) {
+        if ready(force, self.wait[end(g, marking, x, false)]) {
+            let t = end(g, marking, x, true);
             self.wait[t] = self.wait[t].saturating_sub(1);
-            ord[self.put] = x;
-            self.put += 1;
-            return;
+            ord[put] = x;
+            return Taken { kept, put: put + 1 };
         }
-        self.left[self.kept] = x;
-        self.kept += 1;
+        self.left[kept] = x;
+        Taken {
+            kept: kept + 1,
+            put,
+        }
     }
 
-    // One pass over the items that were kept.
-    fn pass(&mut self, g: &Wiring, marking: &[u8; PLACES], force: bool, ord: &mut [Item; ITEMS])
-        requires { Sorting g.now.operations g.now.edges self.old.left ord.old
-            0 self.old.kept 0 self.old.put }
-        ensures done { PassDone g.now.operations g.now.edges self.new.left ord.new
-            force self.old.kept self.new.kept self.new.put }
-        ensures count { self.new.count ≡ self.old.kept }
+    // One pass over the l items that are left, with c in order.
+    fn pass(
+        &mut self,
+        g: &Wiring,
+        marking: &[u8; PLACES],
+        force: bool,
+        l: usize,
+        c: usize,
+        ord: &mut [Item; ITEMS],
+    ) -> Taken
+        requires { Sorting g.now.operations g.now.edges self.old.left ord.old 0 l 0 c }
+        ensures { PassDone g.now.operations g.now.edges self.new.left ord.new
+            force l result.kept result.put }
     {
-        self.count = self.kept;
-        self.kept = 0;
-        for i in 0..self.count {
-            self.take(g, marking, force, i, ord);
+        let mut so_far = Taken { kept: 0, put: c };
+        for i in 0..l {
+            so_far = self.take(g, marking, force, i, l, so_far, ord);
         }
+        so_far
     }
 }
 
@@ -143,16 +153,17 @@ pub fn order(g: &Wiring, marking: &[u8; PLACES], ord: &mut [Item; ITEMS])
     let mut queue = Queue {
         wait: [0; TRANSITIONS],
         left: [Item::Edge(0); ITEMS],
-        count: 0,
-        kept: 0,
-        put: 0,
     };
     queue.enlist(g, marking);
+    let mut l = g.operations + g.edges;
+    let mut c = 0;
     loop {
-        queue.pass(g, marking, false, ord);
-        if queue.kept == queue.count {
-            queue.pass(g, marking, true, ord);
+        let s = queue.pass(g, marking, false, l, c, ord);
+        c = s.put;
+        if s.kept == l {
+            queue.pass(g, marking, true, l, c, ord);
             return;
         }
+        l = s.kept;
     }
 }

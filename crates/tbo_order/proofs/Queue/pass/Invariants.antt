@@ -7,7 +7,6 @@ use Rattle.tbo_order.proofs.Queue.pass.Given as goal
 abbrev pub invariant-loop-i : goal.invariant-loop-i
 invariant-loop-i l =
     record {
-      sorting : Sorting l.g.operations l.g.edges l.self.left l.ord l.i l.self.count l.self.kept l.self.put;
-      forced : l.force ≡ true → l.self.kept ≡ 0;
-      count : l.self.count ≡ l.i-end;
+      sorting : Sorting l.g.operations l.g.edges l.self.left l.ord l.i l.l l.so_far.kept l.so_far.put;
+      forced : l.force ≡ true → l.so_far.kept ≡ 0;
     }
