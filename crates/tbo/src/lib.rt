@@ -16,7 +16,7 @@ ghost use Rattle.tbo.specs.helpers.LargestBy.{LargestBy};
 use fraction::load::{Load, Rate};
 use improve::improve;
 use net::{PLACES, TRANSITIONS};
-use tbo_order::{ITEMS, Item, order};
+use tbo_order::{ITEMS, order};
 
 // What the ring of the operation in row i takes: the sum of its three transition times.
 fn ring_time(times: &[u32; TRANSITIONS], i: usize) -> u64
@@ -70,7 +70,7 @@ pub fn largest(g: &Load, d: &mut [u64; TRANSITIONS]) -> Rate
     requires live { Live (net_of (wires_of g.now.wiring)) (at g.now.marking.now) }
     ensures { LargestBy (loaded_of g.now) result.time result.tokens d.new }
 {
-    let mut ord = [Item::Edge(0); ITEMS];
+    let mut ord = [0u8; ITEMS];
     order(&g.wiring, g.marking, &mut ord);
     let mut best = ring(g, slowest(g.wiring.operations, g.times));
     loop {

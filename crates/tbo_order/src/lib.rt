@@ -2,57 +2,59 @@
 // Any order is right, and only the number of sweeps depends on it: so what is proved of it is that no item is missing.
 #![tactic(auto)]
 
-ghost use Rattle.std.specs.Prelude.{◌≡◌, true, ◌+◌, ◌<◌, length};
-ghost use Rattle.net.specs.Limits.{most_transitions};
-ghost use Rattle.tbo_order.specs.helpers.Items.{Enlisted, ItemAt, ItemOf, Ordered, Sorting, most_items};
+ghost use Rattle.std.specs.Prelude.{◌≡◌, true, ◌+◌, ◌<◌, ◌≤◌, length};
+ghost use Rattle.net.specs.Limits.{most_edges, most_operations, most_transitions};
+ghost use Rattle.tbo_order.specs.helpers.Items.{Enlisted, Item, ItemAt, Ordered, Sorting, most_items};
 ghost use Rattle.tbo_order.specs.helpers.Orders.{PassDone, Took};
 
 use net::wiring::Wiring;
 use net::{EDGES, OPERATIONS, PLACES, TRANSITIONS};
 
-// What a sweep takes at once: the places of an edge, by its number, or of an operation, by its row.
-#[derive(Clone, Copy)]
-pub enum Item {
-    Edge(u8),
-    Operation(u8),
-}
-
 // Room for every item.
 pub const ITEMS: usize = OPERATIONS + EDGES;
 
 // The item of number i: the edges first, then the operations.
-fn numbered(g: &Wiring, i: usize) -> Item
-    requires { i < g.now.operations + g.now.edges }
-    ensures { ItemAt g.now.edges i result }
+fn item(n: usize, e: usize, i: usize) -> u8
+    requires { (n ≤ most_operations) × (e ≤ most_edges) × (i < n + e) }
+    ensures { ItemAt e i result }
 {
-    if i < g.edges {
-        return Item::Edge(i as u8);
+    if i < e {
+        i as u8
+    } else {
+        (i - e + EDGES) as u8
     }
-    Item::Operation((i - g.edges) as u8)
 }
 
 // Where the item's places without a token come from, or where they lead (`onward`): an operation's from its read to its next, an edge's from a write to
 // a read where its full place has none, else back.
-fn end(g: &Wiring, marking: &[u8; PLACES], x: Item, onward: bool) -> usize
-    requires { ItemOf g.now.operations g.now.edges x }
+fn end(g: &Wiring, marking: &[u8; PLACES], x: usize, onward: bool) -> usize
+    requires { Item g.now.operations g.now.edges x }
     ensures { result < most_transitions }
 {
-    match x {
-        Item::Operation(i) => {
-            let p = 3 * usize::from(i);
-            if onward {
-                return p + 3;
-            }
-            p + 1
+    if x >= EDGES {
+        let p = 3 * (x - EDGES);
+        if onward {
+            return p + 3;
         }
-        Item::Edge(k) => {
-            let k = usize::from(k);
-            let ahead = marking[3 * g.operations + 2 * k] == 0;
-            if ahead == onward {
-                return g.reader(k);
-            }
-            g.writer(k)
-        }
+        return p + 1;
+    }
+    let ahead = marking[3 * g.operations + 2 * x] == 0;
+    if ahead == onward {
+        return g.reader(x);
+    }
+    g.writer(x)
+}
+
+// How many items lead to each transition, with all items in left.
+fn enlist(g: &Wiring, marking: &[u8; PLACES], wait: &mut [u8; TRANSITIONS], left: &mut [u8; ITEMS])
+    requires left_len { length left.old ≡ most_items }
+    ensures { Enlisted g.now.operations g.now.edges (g.now.operations + g.now.edges) left.new }
+{
+    for i in 0..g.operations + g.edges {
+        let x = item(g.operations, g.edges, i);
+        left[i] = x;
+        let t = end(g, marking, usize::from(x), true);
+        wait[t] = wait[t].saturating_add(1);
     }
 }
 
@@ -70,98 +72,80 @@ pub struct Taken {
     pub put: usize,
 }
 
-// The items that are left, and how many of them lead to each transition.
-#[derive(Drop)]
-struct Queue {
-    wait: [u8; TRANSITIONS],
-    left: [Item; ITEMS],
+// The item at i of left goes to the end of the order, or is kept.
+fn take(
+    g: &Wiring,
+    marking: &[u8; PLACES],
+    force: bool,
+    i: usize,
+    l: usize,
+    m: usize,
+    c: usize,
+    wait: &mut [u8; TRANSITIONS],
+    left: &mut [u8; ITEMS],
+    ord: &mut [u8; ITEMS],
+) -> Taken
+    requires i_lt_l { i < l }
+    requires sorting { Sorting g.now.operations g.now.edges left.old ord.old i l m c }
+    ensures { Took g.now.operations g.now.edges left.new ord.new force i l m result.kept result.put }
+{
+    let x = left[i];
+    let k = usize::from(x);
+    if ready(force, wait[end(g, marking, k, false)]) {
+        let t = end(g, marking, k, true);
+        wait[t] = wait[t].saturating_sub(1);
+        ord[c] = x;
+        return Taken {
+            kept: m,
+            put: c + 1,
+        };
+    }
+    left[m] = x;
+    Taken {
+        kept: m + 1,
+        put: c,
+    }
 }
 
-impl Queue {
-    // All items.
-    fn enlist(&mut self, g: &Wiring, marking: &[u8; PLACES])
-        requires left_len { length self.old.left ≡ most_items }
-        ensures { Enlisted g.now.operations g.now.edges (g.now.operations + g.now.edges) self.new.left }
-    {
-        for i in 0..g.operations + g.edges {
-            let x = numbered(g, i);
-            self.left[i] = x;
-            let t = end(g, marking, x, true);
-            self.wait[t] = self.wait[t].saturating_add(1);
-        }
+// One pass over the l items that are left.
+fn pass(
+    g: &Wiring,
+    marking: &[u8; PLACES],
+    force: bool,
+    l: usize,
+    c: usize,
+    wait: &mut [u8; TRANSITIONS],
+    left: &mut [u8; ITEMS],
+    ord: &mut [u8; ITEMS],
+) -> Taken
+    requires sorting { Sorting g.now.operations g.now.edges left.old ord.old 0 l 0 c }
+    ensures { PassDone g.now.operations g.now.edges left.new ord.new force l result.kept result.put }
+{
+    let mut m = 0;
+    let mut p = c;
+    for i in 0..l {
+        let s = take(g, marking, force, i, l, m, p, wait, left, ord);
+        m = s.kept;
+        p = s.put;
     }
-
-    // The item at i of l goes to the end of the order, or is kept. (The counts are no fields, so that a pass has them in registers.)
-    fn take(
-        &mut self,
-        g: &Wiring,
-        marking: &[u8; PLACES],
-        force: bool,
-        i: usize,
-        l: usize,
-        so_far: Taken,
-        ord: &mut [Item; ITEMS],
-    ) -> Taken
-        requires i_lt_l { i < l }
-        requires sorting { Sorting g.now.operations g.now.edges self.old.left ord.old
-            i l so_far.kept so_far.put }
-        ensures { Took g.now.operations g.now.edges self.new.left ord.new
-            force i l so_far.kept result.kept result.put }
-    {
-        let Taken { kept, put } = so_far;
-        let x = self.left[i];
-        if ready(force, self.wait[end(g, marking, x, false)]) {
-            let t = end(g, marking, x, true);
-            self.wait[t] = self.wait[t].saturating_sub(1);
-            ord[put] = x;
-            return Taken { kept, put: put + 1 };
-        }
-        self.left[kept] = x;
-        Taken {
-            kept: kept + 1,
-            put,
-        }
-    }
-
-    // One pass over the l items that are left, with c in order.
-    fn pass(
-        &mut self,
-        g: &Wiring,
-        marking: &[u8; PLACES],
-        force: bool,
-        l: usize,
-        c: usize,
-        ord: &mut [Item; ITEMS],
-    ) -> Taken
-        requires { Sorting g.now.operations g.now.edges self.old.left ord.old 0 l 0 c }
-        ensures { PassDone g.now.operations g.now.edges self.new.left ord.new
-            force l result.kept result.put }
-    {
-        let mut so_far = Taken { kept: 0, put: c };
-        for i in 0..l {
-            so_far = self.take(g, marking, force, i, l, so_far, ord);
-        }
-        so_far
-    }
+    Taken { kept: m, put: p }
 }
 
 // Passes until one takes nothing; what is left then, where a circuit has no token, follows as it stands.
-pub fn order(g: &Wiring, marking: &[u8; PLACES], ord: &mut [Item; ITEMS])
+pub fn order(g: &Wiring, marking: &[u8; PLACES], ord: &mut [u8; ITEMS])
     requires ord_len { length ord.old ≡ most_items }
     ensures { Ordered g.now.operations g.now.edges ord.new }
 {
-    let mut queue = Queue {
-        wait: [0; TRANSITIONS],
-        left: [Item::Edge(0); ITEMS],
-    };
-    queue.enlist(g, marking);
+    let mut wait = [0u8; TRANSITIONS];
+    let mut left = [0u8; ITEMS];
+    enlist(g, marking, &mut wait, &mut left);
     let mut l = g.operations + g.edges;
     let mut c = 0;
     loop {
-        let s = queue.pass(g, marking, false, l, c, ord);
+        let s = pass(g, marking, false, l, c, &mut wait, &mut left, ord);
         c = s.put;
         if s.kept == l {
-            queue.pass(g, marking, true, l, c, ord);
+            pass(g, marking, true, l, c, &mut wait, &mut left, ord);
             return;
         }
         l = s.kept;

@@ -1,7 +1,7 @@
 -- The loop that goes round once.
 use mathlib.Core.Path.{◌≡◌, ap, sym, ◌∙◌, subst}
 use mathlib.Core.Logic.{◌≢◌}
-use Prim.Native.Nat.{◌+◌, ◌<◌, ◌≤◌, ℕ}
+use Prim.Native.Nat.{◌+◌, ◌-◌, ◌<◌, ◌≤◌, ℕ}
 use native.Mathlib.Omega.{arith}
 use native.Mathlib.Decide.{ℕ_discrete}
 use Rattle.marked.specs.Net.{Net, Proper}
@@ -27,15 +27,27 @@ module _ {g : Net} {m time P : ℕ → ℕ} {w x t n k : ℕ} (r : Turns g P w) 
   pub going_in : Proper g → x < g.transitions
   going_in ok = omega (arith, o.stands, turns_in r ok k)
 
-  pub going_inside : {p : ℕ} → P x ≡ p + 1 → p < g.places
-  going_inside {p} e = r.notes.inside x p e
+  pub going_place : {q : ℕ} → q ≡ P x → P x ≡ q - 1 + 1
+  going_place {q} eq = elim (ℕ_discrete q 0) [
+    | yes z ↦ absurd (going_noted (sym eq ∙ z))
+    | no z ↦ omega arith
+  ]
 
-  module _ {p y u v : ℕ} (e : P x ≡ p + 1) (ey : y ≡ g.src p) (eu : u ≡ time y) (ev : v ≡ m p) where
+  pub going_pos : {q : ℕ} → q ≡ P x → 1 ≤ q
+  going_pos {q} eq = elim (ℕ_discrete q 0) [
+    | yes z ↦ absurd (going_noted (sym eq ∙ z))
+    | no z ↦ omega arith
+  ]
+
+  pub going_inside : {q : ℕ} → q ≡ P x → q - 1 < g.places
+  going_inside {q} eq = r.notes.inside x (q - 1) (going_place eq)
+
+  module _ {q y u v : ℕ} (eq : q ≡ P x) (ey : y ≡ g.src (q - 1)) (eu : u ≡ time y) (ev : v ≡ m (q - 1)) where
     next : Way g m time P (k + 1) y w (t + u) (n + v)
-    next = rw (eu, ev, ey) (way_on p r.notes e o.way)
+    next = rw (eu, ev, ey) (way_on (q - 1) r.notes (going_place eq) o.way)
 
     stands_next : y ≡ back g P (k + 1) w
-    stands_next = back_step g P k w x y o.stands (ey ∙ behind_noted g x (P x) p e)
+    stands_next = back_step g P k w x y o.stands (ey ∙ behind_noted g x (P x) (q - 1) (going_place eq))
 
     pub going_on : y ≢ w → Going g m time P w y (t + u) (n + v) (k + 1)
     going_on f = record {

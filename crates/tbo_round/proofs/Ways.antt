@@ -14,9 +14,6 @@ use Rattle.net.specs.Plan.{wires}
 use Rattle.net.specs.Graph.{net_of}
 use Rattle.fraction.specs.helpers.Loaded.{Pair, Weighted, most_tokens}
 use Rattle.fraction.proofs.Loads.{weighted_short}
-use Rattle.std.specs.Prelude.{Bool, true, false, Option, None, Some}
-use Rattle.std.specs.Option.{IsSome, is_some}
-use Rattle.tbo_sweep.specs.helpers.Raises.{told}
 use Rattle.tbo_round.specs.helpers.Chains.{Notes, Round, Tour, Turns, Way, back, behind}
 use Rattle.tbo_round.proofs.Chains.{back_in, stuck}
 
@@ -98,26 +95,6 @@ tour_pair o x =
       up = omega (arith, o.wired.operations, tour_lasts longest_time (weighted_short o) o.few x);
       down = omega (arith, o.wired.operations, tour_holds longest_time (weighted_short o) o.few x);
     }
-
--- What a note tells.
-pub untold : (o : Option ℕ) → ((p : ℕ) → o ≡ Some p → ⊥) → told o ≡ 0
-untold None h = refl
-untold (Some p) h = absurd (h p refl)
-
-pub some_told : (o : Option ℕ) → (told o ≡ 0 → ⊥) → IsSome o
-some_told None h = absurd (h refl)
-some_told (Some p) h = refl
-
-pub told_some : {b : Bool} (o : Option ℕ) → b ≡ is_some o → b ≡ true → told o ≡ 0 → ⊥
-told_some None e f z = cc
-told_some (Some p) e f z = omega arith
-
-pub told_none : {b : Bool} (o : Option ℕ) → b ≡ is_some o → b ≡ false → told o ≡ 0
-told_none None e f = refl
-told_none (Some p) e f = absurd cc
-
-pub note_told : {o : Option ℕ} {r p : ℕ} → o ≡ Some r → p ≡ r → told o ≡ p + 1
-note_told e f = rw (e, f) refl
 
 -- one step back
 pub behind_root : (g : Net) (w x : ℕ) → x ≡ 0 → w ≡ behind g w x

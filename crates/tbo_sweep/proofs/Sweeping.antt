@@ -1,5 +1,5 @@
 -- Raises make sweeps, and sweeps follow each other.
-use mathlib.Core.Path.{◌≡◌, ap, refl, ◌∙◌}
+use mathlib.Core.Path.{◌≡◌, refl, ◌∙◌}
 use mathlib.Core.Logic.{◌⊎◌, inl, inr}
 use mathlib.Core.List.{List}
 use Prim.Native.Nat.{◌*◌, ◌+◌, ◌-◌, ◌<◌, ◌≤◌, ℕ}
@@ -11,13 +11,13 @@ use Rattle.std.specs.Prelude.{Option, None, Some}
 use Rattle.std.specs.Option.{option_or}
 use Rattle.marked.specs.Net.{Net, at}
 use Rattle.net.specs.Graph.{RunsFrom}
-use Rattle.tbo_sweep.specs.helpers.Raises.{Lift, NoRise, Raised, Room, SweptOver, notes_at, told}
+use Rattle.tbo_sweep.specs.helpers.Raises.{Lift, NoRise, Raised, Room, SweptOver}
 use Rattle.tbo_sweep.specs.helpers.Raises.Lifts.{more, none}
 use Rattle.tbo_sweep.specs.helpers.Raises.Raised.{kept, raised}
 use Rattle.tbo_sweep.proofs.Lifting.{lifts_trans, lifts_up}
 
 -- a raise leaves room
-pub room_raised : {s t p up down : ℕ} {d h : List ℕ} {c k : List (Option ℕ)} {y : Option ℕ} (top step : ℕ) → up ≤ step → Room top d c → Raised s t p up down d c h k y → Room (top + step) h k
+pub room_raised : {s t p up down : ℕ} {d c h k : List ℕ} {y : Option ℕ} (top step : ℕ) → up ≤ step → Room top d c → Raised s t p up down d c h k y → Room (top + step) h k
 room_raised {s} {t} {p} {up} {down} {d} {c} top step l r (raised hd hc j) = record {
   low = λ v. at (ℕ_discrete v t);
   long = length-set d t _ ∙ r.long;
@@ -31,10 +31,10 @@ room_raised top step l r (kept j) = record { low = λ v. omega (arith, r.low v);
 
 -- the gain and the cost told by other words
 pub raised_as :
-    {s t p up up2 down down2 : ℕ} {d h : List ℕ} {c k : List (Option ℕ)} {y : Option ℕ} → up ≡ up2 → down ≡ down2 → Raised s t p up down d c h k y → Raised s t p up2 down2 d c h k y
+    {s t p up up2 down down2 : ℕ} {d c h k : List ℕ} {y : Option ℕ} → up ≡ up2 → down ≡ down2 → Raised s t p up down d c h k y → Raised s t p up2 down2 d c h k y
 raised_as e f w = rw (← e, ← f) w
 
-pub raised_long : {s t p up down : ℕ} {d h : List ℕ} {c k : List (Option ℕ)} {y : Option ℕ} → Raised s t p up down d c h k y → (length h ≡ length d) × (length k ≡ length c)
+pub raised_long : {s t p up down : ℕ} {d c h k : List ℕ} {y : Option ℕ} → Raised s t p up down d c h k y → (length h ≡ length d) × (length k ≡ length c)
 raised_long {t = t} {d = d} {c = c} (raised hd hc j) = (length-set d t _, length-set c t _)
 raised_long (kept j) = (refl, refl)
 
@@ -72,20 +72,20 @@ module _ {g : Net} {m time : ℕ → ℕ} {a b : ℕ} where
 
   module _ (small : g.transitions ≤ 122) where
     swept_one :
-        (q : ℕ) {d h : List ℕ} {c k : List (Option ℕ)} {y : Option ℕ} → q < g.places → g.dst q < g.transitions →
+        (q : ℕ) {d c h k : List ℕ} {y : Option ℕ} → q < g.places → g.dst q < g.transitions →
         Raised (g.src q) (g.dst q) q (b * time (g.src q)) (a * m q) d c h k y →
-        SweptOver g m time a b (◌≡ q) 1 (at d) (notes_at c) (at h) (notes_at k) y
+        SweptOver g m time a b (◌≡ q) 1 (at d) (at c) (at h) (at k) y
     swept_one q {d} {c} i l (raised hd hc j) =
         let t = g.dst q in
         let v = get_or d (g.src q) 0 + b * time (g.src q) - a * m q in
         let e : get_or (set d t v) t 0 ≡ v = get_or-set_same d t v 0 hd in
-        let lift : Lift g m time a b q (at d) (notes_at c) (at (set d t v)) (notes_at (set c t (Some q))) = record {
+        let lift : Lift g m time a b q (at d) (at c) (at (set d t v)) (at (set c t (q + 1))) = record {
           inside = i;
           rise = j;
           new = omega arith;
-          note = ap told (get_or-set_same c t (Some q) None hc);
+          note = get_or-set_same c t (q + 1) 0 hc;
           same = λ u f. get_or-set_other d t u v 0 f;
-          kept = λ u f. ap told (get_or-set_other c t u (Some q) None f);
+          kept = λ u f. get_or-set_other c t u (q + 1) 0 f;
         } in
         record {
           rises = 1;
@@ -106,12 +106,12 @@ module _ {g : Net} {m time : ℕ → ℕ} {a b : ℕ} where
 
     -- the same of a place from s to t
     pub swept_at :
-        {d h : List ℕ} {c k : List (Option ℕ)} {y : Option ℕ} (q : ℕ) {s t : ℕ} → g.dst q < g.transitions → RunsFrom g q s t →
+        {d c h k : List ℕ} {y : Option ℕ} (q : ℕ) {s t : ℕ} → g.dst q < g.transitions → RunsFrom g q s t →
         Raised s t q (b * time s) (a * m q) d c h k y →
-        SweptOver g m time a b (◌≡ q) 1 (at d) (notes_at c) (at h) (notes_at k) y
-    swept_at {d} {h} {c} {k} {y} q l r w =
+        SweptOver g m time a b (◌≡ q) 1 (at d) (at c) (at h) (at k) y
+    swept_at {d} {c} {h} {k} {y} q l r w =
         let z : Raised (g.src q) (g.dst q) q (b * time (g.src q)) (a * m q) d c h k y = rw (r.leaves, r.comes) w in
         swept_one q r.place l z
 
-pub room_more : {top more : ℕ} {d : List ℕ} {c : List (Option ℕ)} → top ≤ more → Room top d c → Room more d c
+pub room_more : {top more : ℕ} {d c : List ℕ} → top ≤ more → Room top d c → Room more d c
 room_more h r = record { low = λ v. omega (arith, r.low v); long = r.long; wide = r.wide }

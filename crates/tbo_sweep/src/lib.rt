@@ -6,22 +6,20 @@ ghost use Rattle.marked.specs.Net.{at};
 ghost use Rattle.net.specs.helpers.Wirings.{places_of};
 ghost use Rattle.fraction.specs.helpers.Loaded.{Leads, highest};
 ghost use Rattle.fraction.specs.helpers.Loads.{loaded_of};
-ghost use Rattle.tbo_order.specs.helpers.Items.{ItemOf, Ordered};
+ghost use Rattle.tbo_order.specs.helpers.Items.{Item, Ordered};
 ghost use Rattle.tbo_sweep.specs.helpers.Places.{Between, Every, Of};
 ghost use Rattle.tbo_sweep.specs.helpers.Raises.{Raised, Room, SweptArrays};
 
 use fraction::load::{Load, Rate};
-use net::TRANSITIONS;
-use tbo_order::{ITEMS, Item};
+use net::{EDGES, TRANSITIONS};
+use tbo_order::ITEMS;
 
 // The raise of t from s over the place p, which leads there. The answer is t if it rose.
-// The heights d and the notes pred are two arrays, here and below: d is lent from outside, and in a struct every function would have to promise that
-// it hands back the same one.
 fn raise(
     g: &Load,
     rate: Rate,
     d: &mut [u64; TRANSITIONS],
-    pred: &mut [Option<u16>; TRANSITIONS],
+    pred: &mut [u16; TRANSITIONS],
     s: usize,
     t: usize,
     p: usize,
@@ -35,7 +33,7 @@ fn raise(
     let cost = rate.cost(g.marking[p]);
     if d[t] + cost < up {
         d[t] = up - cost;
-        pred[t] = Some(p as u16);
+        pred[t] = (p + 1) as u16;
         return Some(t);
     }
     None
@@ -46,7 +44,7 @@ fn raise_op(
     g: &Load,
     rate: Rate,
     d: &mut [u64; TRANSITIONS],
-    pred: &mut [Option<u16>; TRANSITIONS],
+    pred: &mut [u16; TRANSITIONS],
     i: usize,
 ) -> Option<usize>
     requires row { i < g.now.wiring.operations }
@@ -66,7 +64,7 @@ fn raise_edge(
     g: &Load,
     rate: Rate,
     d: &mut [u64; TRANSITIONS],
-    pred: &mut [Option<u16>; TRANSITIONS],
+    pred: &mut [u16; TRANSITIONS],
     k: usize,
 ) -> Option<usize>
     requires edge { k < g.now.wiring.edges }
@@ -88,27 +86,27 @@ fn raise_item(
     g: &Load,
     rate: Rate,
     d: &mut [u64; TRANSITIONS],
-    pred: &mut [Option<u16>; TRANSITIONS],
-    x: Item,
+    pred: &mut [u16; TRANSITIONS],
+    x: usize,
 ) -> Option<usize>
-    requires item { ItemOf g.now.wiring.operations g.now.wiring.edges x }
+    requires item { Item g.now.wiring.operations g.now.wiring.edges x }
     requires room { Room (2 * highest) d.old pred.old }
     ensures { SweptArrays (loaded_of g.now) rate.time rate.tokens (Of g.now.wiring.operations x) 3
         d.old pred.old d.new pred.new result }
 {
-    match x {
-        Item::Operation(i) => raise_op(g, rate, d, pred, usize::from(i)),
-        Item::Edge(k) => raise_edge(g, rate, d, pred, usize::from(k)),
+    if x >= EDGES {
+        return raise_op(g, rate, d, pred, x - EDGES);
     }
+    raise_edge(g, rate, d, pred, x)
 }
 
 // Every place once, item by item in the order of ord.
 pub fn sweep(
     g: &Load,
     rate: Rate,
-    ord: &[Item; ITEMS],
+    ord: &[u8; ITEMS],
     d: &mut [u64; TRANSITIONS],
-    pred: &mut [Option<u16>; TRANSITIONS],
+    pred: &mut [u16; TRANSITIONS],
 ) -> Option<usize>
     requires ordered { Ordered g.now.wiring.operations g.now.wiring.edges ord.now }
     requires room { Room highest d.old pred.old }
@@ -117,7 +115,7 @@ pub fn sweep(
 {
     let mut last = None;
     for &x in &ord[..g.wiring.operations + g.wiring.edges] {
-        let risen = raise_item(g, rate, d, pred, x);
+        let risen = raise_item(g, rate, d, pred, usize::from(x));
         last = risen.or(last);
     }
     last

@@ -1,17 +1,8 @@
--- Sweeps: potentials of transitions that places raise, with the place that raised each last.
-use Rattle.std.specs.Prelude.{◌≡◌, ◌≢◌, List, Option, None, Some, ◌*◌, ◌+◌, ◌-◌, ◌<◌, ◌≤◌, suc, ℕ, get_or, length, set}
+-- Sweeps: potentials of transitions that places raise, with the place that raised each last (its number plus one; 0: none yet).
+use Rattle.std.specs.Prelude.{◌≡◌, ◌≢◌, List, Option, None, Some, ◌*◌, ◌+◌, ◌-◌, ◌<◌, ◌≤◌, suc, ℕ, length, set}
 use Rattle.marked.specs.Net.{Net, at}
 use Rattle.net.specs.Limits.{most_transitions}
 use Rattle.fraction.specs.helpers.Loaded.{Loaded}
-
--- A note as a number: one more than the place's, 0 where none is.
-abbrev pub told : Option ℕ → ℕ
-told None = 0
-told (Some p) = p + 1
-
--- The notes of a list.
-abbrev pub notes_at : List (Option ℕ) → ℕ → ℕ
-notes_at c v = told (get_or c v None)
 
 -- The place p is the one that raised its transition last.
 abbrev pub Noted : Net → (ℕ → ℕ) → ℕ → Type 0
@@ -50,21 +41,21 @@ pub record Level (top : ℕ) (d : List ℕ) : Type 0 where
   pub long : length d ≡ most_transitions
 
 -- The same, and a note for every transition.
-pub record Room (top : ℕ) (d : List ℕ) (c : List (Option ℕ)) : Type 0 where
+pub record Room (top : ℕ) (d c : List ℕ) : Type 0 where
   pub low : (v : ℕ) → at d v ≤ top
   pub long : length d ≡ most_transitions
   pub wide : length c ≡ most_transitions
 
 -- One raise, of t from s over the place p: the entry is raised and the place noted, or all is kept.
-pub data Raised (s t p up down : ℕ) (d : List ℕ) (c : List (Option ℕ)) : List ℕ → List (Option ℕ) → Option ℕ → Type 0 where
+pub data Raised (s t p up down : ℕ) (d c : List ℕ) : List ℕ → List ℕ → Option ℕ → Type 0 where
   raised : t < length d
       → t < length c
       → at d t + down < at d s + up
-      → Raised s t p up down d c (set d t (at d s + up - down)) (set c t (Some p)) (Some t)
+      → Raised s t p up down d c (set d t (at d s + up - down)) (set c t (p + 1)) (Some t)
   kept : at d s + up ≤ at d t + down → Raised s t p up down d c d c None
 
 -- The places of S were tried on the arrays d and c, which became h and k.
-pub record SweptArrays (g : Loaded) (a b : ℕ) (S : ℕ → Type 0) (most : ℕ) (d : List ℕ) (c : List (Option ℕ)) (h : List ℕ) (k : List (Option ℕ)) (y : Option ℕ) : Type 0 where
-  pub swept : SweptOver g.net g.held g.time a b S most (at d) (notes_at c) (at h) (notes_at k) y
+pub record SweptArrays (g : Loaded) (a b : ℕ) (S : ℕ → Type 0) (most : ℕ) (d c h k : List ℕ) (y : Option ℕ) : Type 0 where
+  pub swept : SweptOver g.net g.held g.time a b S most (at d) (at c) (at h) (at k) y
   pub long : length h ≡ length d
   pub wide : length k ≡ length c
