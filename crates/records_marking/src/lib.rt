@@ -8,65 +8,56 @@ ghost use Rattle.records_marking.specs.Lines.{LookLine, RunLeaves, RunLine, Star
 
 use reader::graph::Graph;
 use records_print::{head, memory, number, word};
-use refusal::{Verdict, none};
+use refusal::Refusal;
 use std::io;
 use std::io::Write;
-use stepping_graph::reply::{end_refusal, start_refusal, step_refusal};
-use waiting_graph::reply::Wait;
 
-fn times<W: Write>(output: &mut W, xs: &[u32; Graph::OPERATIONS], n: usize) -> io::Result<()>
-    requires { n ≤ most_operations }
-    ensures { OnOk result (Appends (W.contents output.old) (W.contents output.new) (times_text xs.now n)) }
+fn times<W: Write>(output: &mut W, g: &Graph) -> io::Result<()>
+    requires { g.now.operations ≤ most_operations }
+    ensures { OnOk result (Appends (W.contents output.old) (W.contents output.new) (times_text g.now.times g.now.operations)) }
 {
-    for x in &xs[..n] {
+    for x in &g.times[..g.operations] {
         number(output, u64::from(*x))?;
     }
     Ok(())
 }
 
-fn rows<W: Write>(
-    output: &mut W,
-    from: &[u8; Graph::EDGES],
-    to: &[u8; Graph::EDGES],
-    mark: &[u8; Graph::EDGES],
-    n: usize,
-) -> io::Result<()>
-    requires { n ≤ most_edges }
+fn rows<W: Write>(output: &mut W, g: &Graph) -> io::Result<()>
+    requires { g.now.edges ≤ most_edges }
     ensures { OnOk result (Appends (W.contents output.old) (W.contents output.new)
-        (rows_text from.now to.now mark.now n)) }
+        (rows_text g.now.from g.now.to g.now.mark g.now.edges)) }
 {
-    for e in 0..n {
-        number(output, u64::from(from[e]))?;
-        number(output, u64::from(to[e]))?;
-        number(output, u64::from(mark[e]))?;
+    for e in 0..g.edges {
+        number(output, u64::from(g.from[e]))?;
+        number(output, u64::from(g.to[e]))?;
+        number(output, u64::from(g.mark[e]))?;
     }
     Ok(())
 }
 
 // Nothing is lent to look but the file, so its memory is empty.
-fn look_graph<W: Write>(output: &mut W, g: Graph) -> io::Result<()>
-    requires { (g.operations ≤ most_operations) × (g.edges ≤ most_edges) }
-    ensures { OnOk result (Appends (W.contents output.old) (W.contents output.new) (graph_text g)) }
+fn look_graph<W: Write>(output: &mut W, g: &Graph) -> io::Result<()>
+    requires { (g.now.operations ≤ most_operations) × (g.now.edges ≤ most_edges) }
+    ensures { OnOk result (Appends (W.contents output.old) (W.contents output.new) (graph_text g.now)) }
 {
-    head(output, b"look", none())?;
+    head(output, b"look", None)?;
     number(output, g.operations as u64)?;
     number(output, g.edges as u64)?;
-    times(output, &g.times, g.operations)?;
-    rows(output, &g.from, &g.to, &g.mark, g.edges)?;
+    times(output, g)?;
+    rows(output, g)?;
     word(output, b" memory\n")
 }
 
 pub fn look_line<W: Write>(output: &mut W, file: &[u8]) -> io::Result<()>
     ensures { OnOk result (LookLine file.now (W.contents output.old) (W.contents output.new)) }
 {
-    let looked = reader::look(file);
-    let verdict = looked.verdict;
-    if let Verdict::Refused(refusal) = verdict {
-        head(output, b"look", refusal)?;
-        return word(output, b" memory\n");
+    match reader::look(file) {
+        Ok(g) => look_graph(output, &g),
+        Err(refusal) => {
+            head(output, b"look", Some(refusal))?;
+            word(output, b" memory\n")
+        }
     }
-    let g = looked.graph;
-    look_graph(output, g)
 }
 
 pub fn start_line<W: Write>(output: &mut W, file: &[u8], marking: &mut [u8]) -> io::Result<()>
@@ -74,7 +65,7 @@ pub fn start_line<W: Write>(output: &mut W, file: &[u8], marking: &mut [u8]) -> 
     ensures left { StartLeaves file.now marking.old marking.new }
 {
     let reply = stepping::start(file, marking);
-    head(output, b"start", start_refusal(reply))?;
+    head(output, b"start", reply.err())?;
     memory(output, marking)
 }
 
@@ -88,7 +79,7 @@ pub fn step_line<W: Write>(
     ensures left { StepLeaves file.now marking.old transition marking.new }
 {
     let reply = stepping::step(file, marking, transition);
-    head(output, b"step", step_refusal(reply))?;
+    head(output, b"step", reply.err())?;
     memory(output, marking)
 }
 
@@ -102,23 +93,22 @@ pub fn run_line<W: Write>(
     ensures left { RunLeaves file.now marking.old list.now marking.new }
 {
     let reply = stepping::run(file, marking, list);
-    let end = reply.end;
-    head(output, b"run", end_refusal(end))?;
+    head(output, b"run", reply.end.err())?;
     number(output, reply.fired as u64)?;
     memory(output, marking)
 }
 
 // A wait, or the refusal and 0.
-fn wait_values<W: Write>(output: &mut W, reply: Wait) -> io::Result<()>
+fn wait_values<W: Write>(output: &mut W, reply: Result<u32, Refusal>) -> io::Result<()>
     ensures { OnOk result (Appends (W.contents output.old) (W.contents output.new) (wait_values_text reply)) }
 {
     match reply {
-        Wait::Waits(firings) => {
-            head(output, b"wait", none())?;
+        Ok(firings) => {
+            head(output, b"wait", None)?;
             number(output, u64::from(firings))
         }
-        Wait::Refused(refusal) => {
-            head(output, b"wait", refusal)?;
+        Err(refusal) => {
+            head(output, b"wait", Some(refusal))?;
             number(output, 0)
         }
     }
