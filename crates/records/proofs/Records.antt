@@ -13,17 +13,7 @@ pub both : {T E : Type 0} {P Q R : T → Type 0} (r : Result T E) → IfOk r P �
 both (Ok x) p q f = f x p q
 both (Err e) p q f = tt
 
--- three counts tell where the parts end
-pub ends : (s : List ℕ) (at a b c : ℕ) → a ≡ count_at s (at + 1) → b ≡ count_at s (at + 3 + a) → c ≡ count_at s (at + 3 + a + 2 + 2 * b)
-    → Ends s at (at + 3 + a) (at + 3 + a + 2 + 2 * b) (at + 3 + a + 2 + 2 * b + 2 + c)
-ends s at a b c p q r =
-    record {
-      file = ap (λ x. at + 3 + x) p;
-      list = ap (λ x. at + 3 + a + 2 + 2 * x) q;
-      marking = ap (λ x. at + 3 + a + 2 + 2 * b + 2 + x) r;
-    }
-
--- and so they end at one place
+-- where parts end is determined
 pub one_end : {s : List ℕ} {at f l m f' l' m' : ℕ} → Ends s at f l m → Ends s at f' l' m' → m ≡ m'
 one_end {s} {at} e e' =
     let file = e.file ∙ sym e'.file in

@@ -1,35 +1,32 @@
 -- The call that a letter names, and what is written of it.
-use Rattle.std.specs.Prelude.{◌≡◌, ◌≢◌, Bool, true, false, ℕ, List, ◌++◌, cond, nat_lt, length, get_or, replicate, min}
-use Rattle.std.specs.declared.option.Option.{Option}
+use Rattle.std.specs.Prelude.{◌≡◌, ◌≢◌, Bool, true, false, ℕ, List, ◌++◌, cond, nat_lt, length, get_or, replicate, min, Option, None, Some, Result, Ok, Err}
 use Rattle.little.specs.Text.{bytes}
-use Rattle.refusal.specs.None.{no_refusal}
+use Rattle.refusal.specs.declared.Refusal.{Refusal}
 use Rattle.records_print.specs.Text.{Told, head_text, memory_text, number_text}
 use Rattle.records_marking.specs.Lines.{LookLine, RunLine, StartLine, StepLine, WaitLine}
-use Rattle.bounds_graph.specs.declared.reply.Bounds.{Bounds}
-use Rattle.bounds_graph.specs.declared.reply.Bounds.TheVariants.{Bounded, Refused as BoundsRefused}
+use Rattle.bounds_graph.specs.declared.reply.Measures.{Measures}
 use Rattle.bounds.specs.Reply.{BoundsReply}
-use Rattle.report_graph.specs.declared.reply.Report.{Report}
-use Rattle.report_graph.specs.declared.reply.Report.TheVariants.{Refused as ReportRefused, Written}
+use Rattle.report_graph.specs.declared.reply.RefusedReport.{RefusedReport}
 use Rattle.report.specs.Reply.{ReportReply}
 
 -- bounds: the measures, or a refusal and 0 for each
-abbrev pub bounds_values_text : Bounds → List ℕ
-bounds_values_text (Bounded v) =
-    head_text (bytes "bounds") no_refusal
+abbrev pub bounds_values_text : Result Measures Refusal → List ℕ
+bounds_values_text (Ok v) =
+    head_text (bytes "bounds") None
     ++ (number_text v.numerator ++ (number_text v.denominator ++ (number_text v.tbio ++ (number_text v.tt ++ (number_text v.tce ++ number_text v.length)))))
-bounds_values_text (BoundsRefused r) = head_text (bytes "bounds") r ++ bytes " 0 0 0 0 0 0"
+bounds_values_text (Err r) = head_text (bytes "bounds") (Some r) ++ bytes " 0 0 0 0 0 0"
 
 -- report: the text's length, that of a refusal's one line too
-abbrev pub report_values_text : Report → List ℕ
-report_values_text (Written len) = head_text (bytes "report") no_refusal ++ number_text len
-report_values_text (ReportRefused r len) = head_text (bytes "report") r ++ number_text len
+abbrev pub report_values_text : Result ℕ RefusedReport → List ℕ
+report_values_text (Ok len) = head_text (bytes "report") None ++ number_text len
+report_values_text (Err r) = head_text (bytes "report") (Some r.refusal) ++ number_text r.length
 
 -- What is written of bounds and of report: before and after are the circuit buffer's, and the report buffer's.
 abbrev pub BoundsLine : List ℕ → List ℕ → List ℕ → Option (List ℕ) → Option (List ℕ) → Type 0
-BoundsLine f before after old new = Told (λ (r : Bounds). BoundsReply f before r after) (λ (r : Bounds). bounds_values_text r ++ memory_text after) old new
+BoundsLine f before after old new = Told (λ (r : Result Measures Refusal). BoundsReply f before r after) (λ (r : Result Measures Refusal). bounds_values_text r ++ memory_text after) old new
 
 abbrev pub ReportLine : List ℕ → List ℕ → List ℕ → Option (List ℕ) → Option (List ℕ) → Type 0
-ReportLine f before after old new = Told (λ (r : Report). ReportReply f before r after) (λ (r : Report). report_values_text r ++ memory_text after) old new
+ReportLine f before after old new = Told (λ (r : Result ℕ RefusedReport). ReportReply f before r after) (λ (r : Result ℕ RefusedReport). report_values_text r ++ memory_text after) old new
 
 -- How long the report's buffer is: 4,096 bytes, or as many as are asked for where these are fewer and not 0.
 abbrev pub room_of : ℕ → ℕ

@@ -1,19 +1,20 @@
 -- What a call leaves in the memory that is lent to it, also where its line is not written.
-use Rattle.std.specs.Prelude.{◌≡◌, ◌≢◌, ℕ, List}
+use Rattle.std.specs.Prelude.{◌≡◌, ◌≢◌, ℕ, List, Result}
+use Rattle.refusal.specs.declared.Refusal.{Refusal}
 use Rattle.records_marking.specs.Lines.{RunLeaves, StartLeaves, StepLeaves}
-use Rattle.bounds_graph.specs.declared.reply.Bounds.{Bounds}
+use Rattle.bounds_graph.specs.declared.reply.Measures.{Measures}
 use Rattle.bounds.specs.Reply.{BoundsReply}
-use Rattle.report_graph.specs.declared.reply.Report.{Report}
+use Rattle.report_graph.specs.declared.reply.RefusedReport.{RefusedReport}
 use Rattle.report.specs.Reply.{ReportReply}
 use Rattle.records.specs.Called.{first_of}
 
 -- bounds, in the circuit buffer: what some reply that its contract allows goes with
 abbrev pub BoundsLeaves : List ℕ → List ℕ → List ℕ → Type 0
-BoundsLeaves f before after = (r : Bounds) × BoundsReply f before r after
+BoundsLeaves f before after = (r : Result Measures Refusal) × BoundsReply f before r after
 
 -- report, in its buffer
 abbrev pub ReportLeaves : List ℕ → List ℕ → List ℕ → Type 0
-ReportLeaves f before after = (r : Report) × ReportReply f before r after
+ReportLeaves f before after = (r : Result ℕ RefusedReport) × ReportReply f before r after
 
 -- The call that a letter names, in its list and its marking: S, T and R write the marking, B the list, and any other neither.
 pub data Leaves (letter : ℕ) (file list list' marking marking' : List ℕ) : Type 0 where

@@ -4,20 +4,20 @@ ghost use Rattle.std.specs.Io.KnownBytes.{Appends};
 ghost use Rattle.records.specs.Called.{BoundsLine, Called, ReportLine, bounds_values_text, first_of, report_buffer, report_values_text, room_of};
 ghost use Rattle.records.specs.Left.{BoundsLeaves, Leaves, ReportLeaves};
 
-use bounds_graph::reply::Bounds;
+use bounds_graph::reply::Measures;
 use records_marking::{look_line, run_line, start_line, step_line, wait_line};
 use records_print::{head, memory, number, word};
-use refusal::none;
-use report_graph::reply::Report;
+use refusal::Refusal;
+use report_graph::reply::RefusedReport;
 use std::io;
 use std::io::Write;
 
-fn bounds_values<W: Write>(output: &mut W, reply: Bounds) -> io::Result<()>
+fn bounds_values<W: Write>(output: &mut W, reply: Result<Measures, Refusal>) -> io::Result<()>
     ensures { OnOk result (Appends (W.contents output.old) (W.contents output.new) (bounds_values_text reply)) }
 {
     match reply {
-        Bounds::Bounded(found) => {
-            head(output, b"bounds", none())?;
+        Ok(found) => {
+            head(output, b"bounds", None)?;
             number(output, found.numerator)?;
             number(output, found.denominator)?;
             number(output, u64::from(found.tbio))?;
@@ -25,8 +25,8 @@ fn bounds_values<W: Write>(output: &mut W, reply: Bounds) -> io::Result<()>
             number(output, u64::from(found.tce))?;
             number(output, found.length as u64)
         }
-        Bounds::Refused(refusal) => {
-            head(output, b"bounds", refusal)?;
+        Err(refusal) => {
+            head(output, b"bounds", Some(refusal))?;
             word(output, b" 0 0 0 0 0 0")
         }
     }
@@ -53,17 +53,17 @@ fn room(asked: usize) -> usize
     }
 }
 
-fn report_values<W: Write>(output: &mut W, reply: Report) -> io::Result<()>
+fn report_values<W: Write>(output: &mut W, reply: Result<usize, RefusedReport>) -> io::Result<()>
     ensures { OnOk result (Appends (W.contents output.old) (W.contents output.new) (report_values_text reply)) }
 {
     match reply {
-        Report::Written { length } => {
-            head(output, b"report", none())?;
+        Ok(length) => {
+            head(output, b"report", None)?;
             number(output, length as u64)
         }
-        Report::Refused { refusal, length } => {
-            head(output, b"report", refusal)?;
-            number(output, length as u64)
+        Err(refused) => {
+            head(output, b"report", Some(refused.refusal))?;
+            number(output, refused.length as u64)
         }
     }
 }
@@ -104,6 +104,7 @@ pub fn call<W: Write>(
         (W.contents output.old) (W.contents output.new) named) }
     ensures left { Leaves letter file.now list.old list.new marking.old marking.new }
 {
+    // Each letter calls with what its call takes, so no table of functions fits.
     match letter {
         b'L' => look_line(output, file)?,
         b'S' => start_line(output, file, marking)?,

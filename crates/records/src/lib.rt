@@ -46,6 +46,30 @@ fn count(s: &[u8], at: usize) -> usize
     }
 }
 
+// Where the parts of a record end.
+#[derive(Clone, Copy)]
+struct PartEnds {
+    file: usize,
+    list: usize,
+    marking: usize,
+}
+
+// The ends that the counts of the record at a place tell, within the input or not.
+fn part_ends(s: &[u8], at: usize) -> PartEnds
+    requires { at < 60000 }
+    ensures bound { result.marking < 1000000 }
+    ensures ends { Ends s.now at result.file result.list result.marking }
+{
+    let file = at + 3 + count(s, at + 1);
+    let list = file + 2 + 2 * count(s, file);
+    let marking = list + 2 + count(s, list);
+    PartEnds {
+        file,
+        list,
+        marking,
+    }
+}
+
 // A record that is cut short, or whose letter names no call, is the last.
 fn cut<W: Write>(output: &mut W, s: &[u8]) -> io::Result<usize>
     ensures end { IfOk result (λ end. end ≡ length s.now) }
@@ -83,23 +107,15 @@ fn record<W: Write>(output: &mut W, s: &[u8], copy: &mut [u8], at: usize) -> io:
         Line s.now at (W.contents output.old) (W.contents output.new) next) }
     ensures behind { (f l m : ℕ) → Ends s.now at f l m → drop m copy.new ≡ drop m copy.old }
 {
-    let file = at + 3;
-    let file_end = file + count(s, at + 1);
-    let list = file_end + 2;
-    let list_end = list + 2 * count(s, file_end);
-    let marking = list_end + 2;
-    let end = marking + count(s, list_end);
-    if s.len() < end {
+    let ends = part_ends(s, at);
+    if s.len() < ends.marking {
         return cut(output, s);
     }
-    if with_list(
-        output,
-        s[at],
-        &s[file..file_end],
-        &s[list..list_end],
-        &mut copy[marking..end],
-    )? {
-        return Ok(end);
+    let file = &s[at + 3..ends.file];
+    let list = &s[ends.file + 2..ends.list];
+    let marking = &mut copy[ends.list + 2..ends.marking];
+    if with_list(output, s[at], file, list, marking)? {
+        return Ok(ends.marking);
     }
     cut(output, s)
 }
