@@ -1,7 +1,6 @@
--- Past the test look has accepted, so its rows are such as the calls ask.
+-- Look has accepted, so the graph is good.
 use Rattle.reader.proofs.Accepting.{accepted_good}
 use Rattle.wait_main.proofs.show_file.Goals as goal
 
-pub show-requires : goal.show-requires
-show-requires g c =
-    let a = accepted_good c.args.file.now c.look-looked.result c.in-Accepted.is c.look-looked.ensures in record { wired = a.wired; marked = a.marked }
+pub lend-requires : goal.lend-requires
+lend-requires g c = accepted_good c.args.file.now c.in-Ok.ensures
