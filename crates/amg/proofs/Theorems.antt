@@ -6,19 +6,22 @@ use native.Mathlib.Omega.{arith}
 use Rattle.refusal.specs.declared.Refusal.{Refusal}
 use Rattle.file.specs.Labels.{SameButLabels}
 use Rattle.file.proofs.Labels.{labels_refl}
-use Rattle.reader.specs.declared.graph.Look.{Look}
+use Rattle.reader.specs.declared.graph.Graph.{Graph}
 use Rattle.reader.proofs.Labels.{look_label_blind}
 use Rattle.stepping.proofs.Replies.{run_label_blind, start_label_blind, step_label_blind}
-use Rattle.waiting_graph.specs.declared.reply.Wait.{Wait}
-use Rattle.waiting_graph.specs.declared.reply.Wait.TheVariants.{Waits}
+use Rattle.std.proofs.Common.{Result, Ok, Option, Some, None, lit<}
+use Rattle.std.specs.Result.{result_err}
 use Rattle.waiting.specs.Reply.{WaitReply}
 use Rattle.waiting.proofs.Theorems.{wait_label_blind, wait_small}
-use Rattle.bounds_graph.specs.declared.reply.Bounds.{Bounds}
+use Rattle.bounds_graph.specs.declared.reply.Measures.{Measures}
 use Rattle.bounds.proofs.Theorems.{bounds_label_blind}
 use Rattle.report.proofs.Theorems.{report_label_blind}
 use Rattle.amg.specs.Calls.{BoundsCall, LookCall, ReportCall, RunCall, StartCall, StepCall, ToldBy, WaitCall}
-use Rattle.amg_word.specs.Numbers.{wait_count, wait_refusal}
+use Rattle.amg_word.specs.Numbers.{wait_count}
 use Rattle.amg.specs.Tables.{Tables, shown_in, values_in}
+use Rattle.refusal.specs.declared.Reason.{Reason}
+use Rattle.refusal.specs.declared.Reason.TheVariants.{Length, Trailer, Counts, Tables as Table_row, Time, Edge, Loose, Apart, Dead, Marking, Unreached, Transition, Disabled, Room}
+use Rattle.refusal.specs.Numbers.{number_of, number_told, place_told}
 use Rattle.amg_word.specs.Word.{most_count, packed}
 
 -- where two contracts allow one reply only, they allow one word only
@@ -30,7 +33,7 @@ module _ (f g : List ℕ) (a : SameButLabels f g) where
   pub amg_look_label_blind : (b y z : Tables) (v w : ℕ) → LookCall f b v y → LookCall g b w z → (v ≡ w) × (y ≡ z)
   amg_look_label_blind b y z v w s t =
       let e = look_label_blind f g a s.reply t.reply s.allowed.0 t.allowed.0 in
-      (same_word s t e, s.allowed.1 ∙ ap (λ (r : Look). shown_in r.verdict r.graph b) e ∙ sym t.allowed.1)
+      (same_word s t e, s.allowed.1 ∙ ap (λ (r : Result Graph Refusal). shown_in r b) e ∙ sym t.allowed.1)
 
   pub amg_start_label_blind : (m y z : List ℕ) (v w : ℕ) → StartCall f m v y → StartCall g m w z → (v ≡ w) × (y ≡ z)
   amg_start_label_blind m y z v w s t = let d = start_label_blind f g m y z s.reply t.reply a s.allowed t.allowed in (same_word s t d.0, d.1)
@@ -47,7 +50,7 @@ module _ (f g : List ℕ) (a : SameButLabels f g) where
   pub amg_bounds_label_blind : (m b y z c d : List ℕ) (v w : ℕ) → BoundsCall f m b v y c → BoundsCall g m b w z d → (v ≡ w) × (y ≡ z) × (c ≡ d)
   amg_bounds_label_blind m b y z c d v w s t =
       let e = bounds_label_blind f g m s.reply t.reply y z a s.allowed.0 t.allowed.0 in
-      (same_word s t e.0, e.1, s.allowed.1 ∙ ap (λ (r : Bounds). values_in r b) e.0 ∙ sym t.allowed.1)
+      (same_word s t e.0, e.1, s.allowed.1 ∙ ap (λ (r : Result Measures Refusal). values_in r b) e.0 ∙ sym t.allowed.1)
 
   pub amg_report_label_blind : (m y z : List ℕ) (v w : ℕ) → ReportCall f m v y → ReportCall g m w z → (v ≡ w) × (y ≡ z)
   amg_report_label_blind m y z v w s t = let d = report_label_blind f g m s.reply t.reply y z a s.allowed t.allowed in (same_word s t d.0, d.1)
@@ -75,18 +78,39 @@ module _ (f : List ℕ) where
   pub amg_report_determined : (m y z : List ℕ) (v w : ℕ) → ReportCall f m v y → ReportCall f m w z → (v ≡ w) × (y ≡ z)
   amg_report_determined = amg_report_label_blind f f (labels_refl f)
 
--- A word tells its number, its place and its count apart.
-module _ (r : Refusal) (count : ℕ) (small : r.number < 256) (near : r.place < 65536) where
-  pub word_number : packed r count % 256 ≡ r.number
-  word_number = omega arith
+-- Each number of the table takes one byte.
+number_small : (k : Reason) → number_of k < 256
+number_small Length = lit< tt
+number_small Trailer = lit< tt
+number_small Counts = lit< tt
+number_small Table_row = lit< tt
+number_small Time = lit< tt
+number_small Edge = lit< tt
+number_small Loose = lit< tt
+number_small Apart = lit< tt
+number_small Dead = lit< tt
+number_small Marking = lit< tt
+number_small Unreached = lit< tt
+number_small Transition = lit< tt
+number_small Disabled = lit< tt
+number_small Room = lit< tt
 
-  pub word_place : packed r count / 256 % 65536 ≡ r.place
-  word_place = omega arith
+told_small : (r : Option Refusal) → number_told r < 256
+told_small None = lit< tt
+told_small (Some r) = number_small r.reason
+
+-- A word tells its number, its place and its count apart.
+module _ (r : Option Refusal) (count : ℕ) (near : place_told r < 65536) where
+  pub word_number : packed r count % 256 ≡ number_told r
+  word_number = omega (arith, told_small r)
+
+  pub word_place : packed r count / 256 % 65536 ≡ place_told r
+  word_place = omega (arith, told_small r)
 
   pub word_count : packed r count / 1099511627776 ≡ min count most_count
-  word_count = omega arith
+  word_count = omega (arith, told_small r)
 
 -- A wait's word tells the wait itself: it is never cut to the 24 bits.
-pub amg_wait_exact : (f m : List ℕ) (n v w : ℕ) (c : WaitCall f m n v) → c.reply ≡ Waits w → v / 1099511627776 ≡ w
+pub amg_wait_exact : (f m : List ℕ) (n v w : ℕ) (c : WaitCall f m n v) → c.reply ≡ Ok w → v / 1099511627776 ≡ w
 amg_wait_exact f m n v w c e =
-    omega (arith, c.told, ap (λ (r : Wait). packed (wait_refusal r) (wait_count r)) e, wait_small f m n w (subst (WaitReply f m n) e c.allowed))
+    omega (arith, c.told, ap (λ (r : Result ℕ Refusal). packed (result_err r) (wait_count r)) e, wait_small f m n w (subst (WaitReply f m n) e c.allowed))

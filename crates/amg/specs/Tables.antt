@@ -1,11 +1,9 @@
 -- What look and bounds tell beyond the word: in arrays that the caller lends.
-use Rattle.std.specs.Prelude.{List, [], ◌∷◌, ℕ}
-use Rattle.refusal.specs.declared.Verdict.{Verdict}
-use Rattle.refusal.specs.declared.Verdict.TheVariants.{Accepted, Refused as LookRefused}
+use Rattle.std.specs.Prelude.{List, [], ◌∷◌, ℕ, Result, Ok, Err}
+use Rattle.refusal.specs.declared.Refusal.{Refusal}
 use Rattle.reader.specs.declared.graph.Graph.{Graph}
 use Rattle.amg_word.specs.Numbers.{bounds_values}
-use Rattle.bounds_graph.specs.declared.reply.Bounds.{Bounds}
-use Rattle.bounds_graph.specs.declared.reply.Bounds.TheVariants.{Bounded, Refused as BoundsRefused}
+use Rattle.bounds_graph.specs.declared.reply.Measures.{Measures}
 
 -- The arrays lent to look.
 pub record Tables : Type 0 where
@@ -20,11 +18,11 @@ abbrev pub tables : List ℕ → List ℕ → List ℕ → List ℕ → List ℕ
 tables counts times from to mark = record { counts = counts; times = times; from = from; to = to; mark = mark }
 
 -- The arrays after look: the graph's N and E, times and rows, unused entries 0; a refusal writes nothing.
-abbrev pub shown_in : Verdict → Graph → Tables → Tables
-shown_in Accepted g before = tables (g.operations ∷ g.edges ∷ []) g.times g.from g.to g.mark
-shown_in (LookRefused r) g before = before
+abbrev pub shown_in : Result Graph Refusal → Tables → Tables
+shown_in (Ok g) before = tables (g.operations ∷ g.edges ∷ []) g.times g.from g.to g.mark
+shown_in (Err r) before = before
 
 -- The five values after bounds; a refusal writes nothing.
-abbrev pub values_in : Bounds → List ℕ → List ℕ
-values_in (Bounded v) before = bounds_values v
-values_in (BoundsRefused r) before = before
+abbrev pub values_in : Result Measures Refusal → List ℕ → List ℕ
+values_in (Ok v) before = bounds_values v
+values_in (Err r) before = before
