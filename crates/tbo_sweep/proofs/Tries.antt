@@ -6,7 +6,7 @@ use Prim.Native.Nat.{ℕ, ◌+◌, ◌*◌, ◌≤◌, ◌<◌}
 use native.Mathlib.Omega.{arith}
 use native.Mathlib.Nat.{mul-le-mul}
 use native.Mathlib.Decide.{ℕ_discrete}
-use Rattle.std.specs.Prelude.{Option, None}
+use Rattle.std.specs.Prelude.{Option, None, Some}
 use Rattle.std.specs.Option.{option_or}
 use Rattle.marked.specs.Net.{Proper, at}
 use Rattle.net.specs.Limits.{longest_time, most_transitions}
@@ -88,3 +88,8 @@ room_swept {top = top} short l o w = record {
   long = w.long ∙ o.long;
   wide = w.wide ∙ o.wide;
 }
+
+-- One behind the other.
+pub or_two : (y x w : Option ℕ) → option_or y (option_or x w) ≡ option_or (option_or y x) w
+or_two None x w = refl
+or_two (Some t) x w = refl

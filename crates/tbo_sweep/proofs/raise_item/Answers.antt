@@ -11,10 +11,14 @@ raise_op-requires c =
     record { row = omega arith; room = c.requires.room }
 
 pub returns-then-x-ge-EDGES : goal.returns-then-x-ge-EDGES
-returns-then-x-ge-EDGES c = swepts_to (λ p h. of_op c.args.g.now.wiring.operations c.args.x p c.if-x-ge-EDGES.true h) (omega arith) c.raise_op.ensures
+returns-then-x-ge-EDGES c =
+    let o = c.raise_op.ensures in
+    record { own = o.own; swept = swepts_to (λ p h. of_op c.args.g.now.wiring.operations c.args.x p c.if-x-ge-EDGES.true h) (omega arith) o.swept; last = o.last }
 
 pub raise_edge-requires : goal.raise_edge-requires
 raise_edge-requires c = record { edge = item_edge _ _ _ c.requires.item (omega arith); room = c.requires.room }
 
 pub returns : goal.returns
-returns c = swepts_to (λ p h. of_edge c.args.g.now.wiring.operations c.args.x p (omega arith) h) (omega arith) c.raise_edge.ensures
+returns c =
+    let o = c.raise_edge.ensures in
+    record { own = o.own; swept = swepts_to (λ p h. of_edge c.args.g.now.wiring.operations c.args.x p (omega arith) h) (omega arith) o.swept; last = o.last }

@@ -15,8 +15,8 @@ loop-x-init c = swepts_none (λ p h. absurd (omega (arith, h.1)))
 pub overflow_add-x-items : goal.overflow_add-x-items
 overflow_add-x-items c = omega (arith, c.args.g.now.wiring.wired.operations, c.args.g.now.wiring.wired.edges)
 
-pub raise_item-risen-requires : goal.raise_item-risen-requires
-raise_item-risen-requires c =
+pub raise_item-last-requires : goal.raise_item-last-requires
+raise_item-last-requires c =
     let here = handed c.args.ord.now c.loop-x-test.true c.from.ensures in
     let room = room_swept (weighted_short c.args.g.now.weighted) c.args.rate.pair.down c.requires.room c.loop-x.invariant in
     record {
@@ -26,9 +26,9 @@ raise_item-risen-requires c =
 
 pub loop-x-preserved : goal.loop-x-preserved
 loop-x-preserved c =
-    let tried = rw (handed c.args.ord.now c.loop-x-test.true c.from.ensures).1 at c.raise_item-risen.ensures in
+    let tried = rw (handed c.args.ord.now c.loop-x-test.true c.from.ensures).1 at c.raise_item-last.ensures.swept in
     let next = swepts_then (among_last c.args.g.now.wiring.operations c.loop-x.x-index c.args.ord.now) c.loop-x.invariant tried in
-    rw c.or-last.ensures (swepts_to (λ p h. h) (omega arith) next)
+    rw c.raise_item-last.ensures.last (swepts_to (λ p h. h) (omega arith) next)
 
 pub returns : goal.returns
 returns c =

@@ -1,5 +1,6 @@
 -- Sweeps: potentials of transitions that places raise, with the place that raised each last (its number plus one; 0: none yet).
 use Rattle.std.specs.Prelude.{◌≡◌, ◌≢◌, List, Option, None, Some, ◌*◌, ◌+◌, ◌-◌, ◌<◌, ◌≤◌, suc, ℕ, length, set}
+use Rattle.std.specs.Option.{option_or}
 use Rattle.marked.specs.Net.{Net, at}
 use Rattle.net.specs.Limits.{most_transitions}
 use Rattle.fraction.specs.helpers.Loaded.{Loaded}
@@ -59,3 +60,15 @@ pub record SweptArrays (g : Loaded) (a b : ℕ) (S : ℕ → Type 0) (most : ℕ
   pub swept : SweptOver g.net g.held g.time a b S most (at d) (at c) (at h) (at k) y
   pub long : length h ≡ length d
   pub wide : length k ≡ length c
+
+-- A raise, behind others: r is the transition that rose last by then, x before.
+pub record RaisedAfter (s t p up down : ℕ) (d c : List ℕ) (x : Option ℕ) (h k : List ℕ) (r : Option ℕ) : Type 0 where
+  pub own : Option ℕ
+  pub raised : Raised s t p up down d c h k own
+  pub last : r ≡ option_or own x
+
+-- The same of the places of S.
+pub record SweptAfter (g : Loaded) (a b : ℕ) (S : ℕ → Type 0) (most : ℕ) (d c : List ℕ) (x : Option ℕ) (h k : List ℕ) (r : Option ℕ) : Type 0 where
+  pub own : Option ℕ
+  pub swept : SweptArrays g a b S most d c h k own
+  pub last : r ≡ option_or own x
