@@ -10,7 +10,7 @@ ghost use Rattle.tbo_order.specs.helpers.Orders.{PassDone, Took};
 use net::wiring::Wiring;
 use net::{EDGES, OPERATIONS, PLACES, TRANSITIONS};
 
-// Room for every item.
+// Room for every item. An item is one byte, an edge's number or EDGES and an operation's row: with an enum of two bytes `largest` takes longer.
 pub const ITEMS: usize = OPERATIONS + EDGES;
 
 // The item of number i: the edges first, then the operations.

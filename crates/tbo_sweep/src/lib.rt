@@ -14,6 +14,8 @@ use fraction::load::{Load, Rate};
 use net::{EDGES, TRANSITIONS};
 use tbo_order::ITEMS;
 
+// The heights d and the notes pred are two arrays, here and below: d is lent from outside, and in a struct every function would have to promise that it
+// hands back the same one. A note is the place's number plus one, 0 for none: an Option of it takes twice the room.
 // The raise of t from s over the place p, which leads there. The answer, here and below, is the transition that rose last by then, if one did; `last`
 // before.
 fn raise(
