@@ -20,7 +20,7 @@ use Rattle.amg.specs.Calls.{BoundsCall, LookCall, ReportCall, RunCall, StartCall
 use Rattle.amg_word.specs.Numbers.{wait_count}
 use Rattle.amg.specs.Tables.{Tables, shown_in, values_in}
 use Rattle.refusal.specs.declared.Reason.{Reason}
-use Rattle.refusal.specs.declared.Reason.TheVariants.{Length, Trailer, Counts, Tables as Table_row, Time, Edge, Loose, Apart, Dead, Marking, Unreached, Transition, Disabled, Room}
+use Rattle.refusal.specs.declared.Reason.TheVariants.{CircuitDead, CountsWrong, EdgeWrong, LengthWrong, MarkingUnreached, MarkingWrong, NodeApart, NodeLoose, RoomShort, TablesWrong as Table_row, TimeWrong, TrailerWrong, TransitionDisabled, TransitionUnknown}
 use Rattle.refusal.specs.Numbers.{number_of, number_told, place_told}
 use Rattle.amg_word.specs.Word.{most_count, packed}
 
@@ -80,20 +80,20 @@ module _ (f : List ℕ) where
 
 -- Each number of the table takes one byte.
 number_small : (k : Reason) → number_of k < 256
-number_small Length = lit< tt
-number_small Trailer = lit< tt
-number_small Counts = lit< tt
+number_small LengthWrong = lit< tt
+number_small TrailerWrong = lit< tt
+number_small CountsWrong = lit< tt
 number_small Table_row = lit< tt
-number_small Time = lit< tt
-number_small Edge = lit< tt
-number_small Loose = lit< tt
-number_small Apart = lit< tt
-number_small Dead = lit< tt
-number_small Marking = lit< tt
-number_small Unreached = lit< tt
-number_small Transition = lit< tt
-number_small Disabled = lit< tt
-number_small Room = lit< tt
+number_small TimeWrong = lit< tt
+number_small EdgeWrong = lit< tt
+number_small NodeLoose = lit< tt
+number_small NodeApart = lit< tt
+number_small CircuitDead = lit< tt
+number_small MarkingWrong = lit< tt
+number_small MarkingUnreached = lit< tt
+number_small TransitionUnknown = lit< tt
+number_small TransitionDisabled = lit< tt
+number_small RoomShort = lit< tt
 
 told_small : (r : Option Refusal) → number_told r < 256
 told_small None = lit< tt

@@ -1,4 +1,4 @@
--- What bounds replies (document 01, "Bounds" and "Calls and refusals"), over look's reply.
+-- What bounds replies, over look's reply.
 use Rattle.std.specs.Prelude.{List, ℕ, Result, Ok, Err}
 use Rattle.refusal.specs.declared.Refusal.{Refusal}
 use Rattle.reader.specs.Reply.{shown}

@@ -1,4 +1,4 @@
--- The bounds of a graph (document 01, "Bounds").
+-- The bounds of a graph.
 use Rattle.std.specs.Prelude.{List, ℕ}
 use Rattle.net.specs.Plan.{Plan}
 use Rattle.net.specs.Graph.{net_of, start_of, times_of}

@@ -1,4 +1,4 @@
--- Row 14 of the refusal table (document 01, "Calls and refusals"), over look's graph, as bounds asks it.
+-- Row 14 of the refusal table, over look's graph, as bounds asks it.
 use Rattle.std.specs.Prelude.{ℕ, ◌≤◌, List, [], ◌∷◌, length}
 use Rattle.refusal.specs.Asking.{Ask, asked}
 use Rattle.net.specs.Graph.{net_of}

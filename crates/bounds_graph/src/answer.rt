@@ -14,7 +14,7 @@ pub fn answer(g: &Accepted, circuit: &mut [u16]) -> Result<Measures, Refusal>
     ensures { BoundsAnswered (plan_of_accepted g.now) circuit.old result circuit.new }
 {
     if circuit.len() < g.plotted.wiring.transitions() {
-        return Err(refuse(Reason::Room, 0));
+        return Err(refuse(Reason::RoomShort, 0));
     }
     let mut marking = [0; PLACES];
     start_marking(&g.plotted, &mut marking);

@@ -1,4 +1,4 @@
--- Document 01's table holds: one test over its cases is passed by computing, and gives what they say.
+-- The table of the worked graphs holds: one test over its cases is passed by computing, and gives what they say.
 use mathlib.Core.Path.{refl}
 use native.Mathlib.Decide.{ℕ_discrete}
 use Rattle.little.specs.Little.{quad, word}

@@ -1,9 +1,9 @@
--- How a graph that document 01 works through is written as a file (document 01, "The file, read from its end").
+-- How a worked graph is written as a file.
 use Rattle.std.specs.Prelude.{List, [], ◌∷◌, ◌++◌, ◌%◌, ◌*◌, ◌+◌, ◌/◌, ℕ, length, replicate}
 use Rattle.file_trailer.specs.Limits.{edge_bytes, operation_bytes}
 use Rattle.file.specs.Frame.{magic}
 
--- An edge from one node to another, without a mark, or with one (a star in document 01).
+-- An edge from one node to another, without a mark, or with one (a star in samples/graphs.txt).
 pub data Arrow : Type 0 where
   plain : ℕ → ℕ → Arrow
   star : ℕ → ℕ → Arrow

@@ -1,4 +1,4 @@
--- What document 01 says of a graph that it works through, and what each sentence means in the words of the contracts.
+-- What is said of a worked graph, and what each sentence means in the words of the contracts.
 use Rattle.std.specs.Prelude.{◌≡◌, List, ◌++◌, ◌<◌, ◌≤◌, ℕ, drop, length}
 use Rattle.refusal.specs.declared.Refusal.{Refusal}
 use Rattle.refusal.specs.declared.Verdict.TheVariants.{Accepted, Refused}

@@ -1,4 +1,4 @@
--- The table P1 to P10 (document 01, "Graphs worked through"): each case is a graph, and what is said of it.
+-- The table P1 to P10: each case is a graph, and what is said of it.
 use Rattle.std.specs.Prelude.{List, [], ◌∷◌, ℕ, set}
 use Rattle.little.specs.Text.{bytes}
 use Rattle.bounds_graph.specs.declared.reply.Measures.{Measures}

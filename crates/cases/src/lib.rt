@@ -1,2 +1,2 @@
-// Document 01's graphs worked through. It has no code: the table is in specs/, and that it holds is proved in proofs/.
+// The worked graphs. It has no code: the table is in specs/, and that it holds is proved in proofs/.
 #![tactic(auto)]

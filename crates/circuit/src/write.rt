@@ -11,7 +11,7 @@ ghost use Rattle.circuit.specs.helpers.Writing.{WayCounted, Written};
 use circuit_search::Ways;
 use net::TRANSITIONS;
 
-// How many places the circuit has: those that lead back from goal to root, and the one before them.
+// How many places the circuit has: those that lead back from goal to root, and the one before them. The notes say how far back it goes, and no range does.
 fn count_back(w: &Ways, via: &[u16; TRANSITIONS], root: usize, goal: usize) -> usize
     requires root_lt_nt { (root < w.now.transitions) × (root ≢ goal) }
     requires first_noted { FirstNoted (drawn w.now.transitions w.now.places (sources w.now.lists.now.entries) (targets w.now.lists.now.entries)) (Listed (targets w.now.lists.now.entries)) root goal (at via.now) }

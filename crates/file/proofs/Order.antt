@@ -5,7 +5,7 @@ use mathlib.Core.List.{List}
 use Rattle.refusal.specs.Asking.{Given, Sound}
 use Rattle.refusal.proofs.Asked.{given_here, given_next, lowest_whole, sound_next, sound_none}
 use Rattle.file.specs.Frame.{CountsKept, Framed, Laid, Signed, Sized, frame_rows}
-use Rattle.refusal.specs.declared.Reason.TheVariants.{Counts, Length, Tables, Trailer}
+use Rattle.refusal.specs.declared.Reason.TheVariants.{CountsWrong, LengthWrong, TablesWrong, TrailerWrong}
 
 module _ {f : List ℕ} where
   -- A file has its frame just if its rows are sound.
@@ -16,14 +16,14 @@ module _ {f : List ℕ} where
   sound_framed h = record { sized = h.kept.0 0 refl; signed = h.kept.1.0 0 refl; counted = h.kept.1.1.0 0 refl; laid = h.kept.1.1.1.0 0 refl }
 
 -- The refusals of rows 1 to 4: the first broken one is given.
-pub refused_1 : (f : List ℕ) → (Sized f → ⊥) → Given (frame_rows f) (record { reason = Length; place = 0 })
-refused_1 f n = given_here (record { reason = Length; place = 0 }) refl (lowest_whole n)
+pub refused_1 : (f : List ℕ) → (Sized f → ⊥) → Given (frame_rows f) (record { reason = LengthWrong; place = 0 })
+refused_1 f n = given_here (record { reason = LengthWrong; place = 0 }) refl (lowest_whole n)
 
-pub refused_2 : (f : List ℕ) → Sized f → (Signed f → ⊥) → Given (frame_rows f) (record { reason = Trailer; place = 0 })
-refused_2 f p n = given_next (λ x e. p) (given_here (record { reason = Trailer; place = 0 }) refl (lowest_whole n))
+pub refused_2 : (f : List ℕ) → Sized f → (Signed f → ⊥) → Given (frame_rows f) (record { reason = TrailerWrong; place = 0 })
+refused_2 f p n = given_next (λ x e. p) (given_here (record { reason = TrailerWrong; place = 0 }) refl (lowest_whole n))
 
-pub refused_3 : (f : List ℕ) → Sized f → Signed f → (CountsKept f → ⊥) → Given (frame_rows f) (record { reason = Counts; place = 0 })
-refused_3 f p q n = given_next (λ x e. p) (given_next (λ x e. q) (given_here (record { reason = Counts; place = 0 }) refl (lowest_whole n)))
+pub refused_3 : (f : List ℕ) → Sized f → Signed f → (CountsKept f → ⊥) → Given (frame_rows f) (record { reason = CountsWrong; place = 0 })
+refused_3 f p q n = given_next (λ x e. p) (given_next (λ x e. q) (given_here (record { reason = CountsWrong; place = 0 }) refl (lowest_whole n)))
 
-pub refused_4 : (f : List ℕ) → Sized f → Signed f → CountsKept f → (Laid f → ⊥) → Given (frame_rows f) (record { reason = Tables; place = 0 })
-refused_4 f p q r n = given_next (λ x e. p) (given_next (λ x e. q) (given_next (λ x e. r) (given_here (record { reason = Tables; place = 0 }) refl (lowest_whole n))))
+pub refused_4 : (f : List ℕ) → Sized f → Signed f → CountsKept f → (Laid f → ⊥) → Given (frame_rows f) (record { reason = TablesWrong; place = 0 })
+refused_4 f p q r n = given_next (λ x e. p) (given_next (λ x e. q) (given_next (λ x e. r) (given_here (record { reason = TablesWrong; place = 0 }) refl (lowest_whole n))))

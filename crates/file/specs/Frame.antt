@@ -1,4 +1,4 @@
--- Rows 1 to 4 of the refusal table (document 01, "Calls and refusals"), the frame of a file, and the rows of look:
+-- Rows 1 to 4 of the refusal table, the frame of a file, and the rows of look:
 -- what is asked of the file, then what is asked of its graph.
 use Rattle.std.specs.Prelude.{ℕ, ◌+◌, ◌*◌, ◌-◌, ◌<◌, ◌≡◌, ◌⊎◌, List, [], ◌++◌, ◌∷◌, length, get_or}
 use Rattle.refusal.specs.Asking.{Ask, asked}

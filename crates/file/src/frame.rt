@@ -61,16 +61,16 @@ pub fn framed(file: &[u8]) -> Verdict
     ensures { Judged (frame_rows file.now) result }
 {
     if !sized(file) {
-        return Err(refuse(Reason::Length, 0));
+        return Err(refuse(Reason::LengthWrong, 0));
     }
     if !signed(file) {
-        return Err(refuse(Reason::Trailer, 0));
+        return Err(refuse(Reason::TrailerWrong, 0));
     }
     if !counted(file) {
-        return Err(refuse(Reason::Counts, 0));
+        return Err(refuse(Reason::CountsWrong, 0));
     }
     if !laid(file) {
-        return Err(refuse(Reason::Tables, 0));
+        return Err(refuse(Reason::TablesWrong, 0));
     }
     Ok(())
 }

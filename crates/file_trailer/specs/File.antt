@@ -1,4 +1,4 @@
--- Where the numbers of a file stand (document 01, "The file, read from its end"). A file is the list of its bytes.
+-- Where the numbers of a file stand. A file is the list of its bytes.
 use Rattle.std.specs.Prelude.{ℕ, ◌+◌, ◌*◌, ◌-◌, List, length}
 use Rattle.little.specs.Little.{byte_at, quad, word}
 use Rattle.net.specs.Plan.{Plan}

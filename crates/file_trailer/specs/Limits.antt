@@ -1,4 +1,4 @@
--- The sizes that a file is made of, and the limits of its length (document 01).
+-- The sizes that a file is made of, and the limits of its length.
 use Rattle.std.specs.Prelude.{ℕ}
 use Rattle.net.specs.Limits.{Within}
 

@@ -20,7 +20,7 @@ use Rattle.judge.proofs.Reaching.{alive?, joined?}
 use Rattle.std.specs.Prelude.{Err, Ok}
 use Rattle.refusal.specs.Numbers.{number_of}
 use Rattle.refusal.specs.declared.Reason.{Reason}
-use Rattle.refusal.specs.declared.Reason.TheVariants.{Apart, Dead, Edge, Loose, Time}
+use Rattle.refusal.specs.declared.Reason.TheVariants.{CircuitDead, EdgeWrong, NodeApart, NodeLoose, TimeWrong}
 
 -- Limits.
 abbrev pub within? : (low high n : ℕ) → Dec (Within low high n)
@@ -116,8 +116,8 @@ module _ (p : Plan) where
   -- The verdict, computed.
   abbrev pub graph_verdict : Verdicts (graph_rows p)
   graph_verdict =
-      asks (row5 p) Time refl (row6 p ∷ row7 p ∷ row8 p ∷ row9 p ∷ []) late (λ k5.
-      asks (row6 p) Edge refl (row7 p ∷ row8 p ∷ row9 p ∷ []) wrong (λ k6.
-      asks (row7 p) Loose refl (row8 p ∷ row9 p ∷ []) bare (λ k7.
-      asks (row8 p) Apart refl (row9 p ∷ []) (apart k6) (λ k8.
-      asks (row9 p) Dead refl [] (dead k6) (λ k9. (Ok tt, sound sound_none))))))
+      asks (row5 p) TimeWrong refl (row6 p ∷ row7 p ∷ row8 p ∷ row9 p ∷ []) late (λ k5.
+      asks (row6 p) EdgeWrong refl (row7 p ∷ row8 p ∷ row9 p ∷ []) wrong (λ k6.
+      asks (row7 p) NodeLoose refl (row8 p ∷ row9 p ∷ []) bare (λ k7.
+      asks (row8 p) NodeApart refl (row9 p ∷ []) (apart k6) (λ k8.
+      asks (row9 p) CircuitDead refl [] (dead k6) (λ k9. (Ok tt, sound sound_none))))))

@@ -42,9 +42,9 @@ pub fn judge(g: &Rows) -> Verdict
         mark,
         buffers,
     } = *g;
-    asked(Reason::Time, first_late(operations, times))?;
+    asked(Reason::TimeWrong, first_late(operations, times))?;
     asked(
-        Reason::Edge,
+        Reason::EdgeWrong,
         first_wrong(operations, edges, from, to, mark, buffers),
     )?;
     let wiring = Wiring {
@@ -53,7 +53,7 @@ pub fn judge(g: &Rows) -> Verdict
         from,
         to,
     };
-    asked(Reason::Loose, first_bare(&wiring))?;
-    asked(Reason::Apart, first_apart(&wiring))?;
-    asked(Reason::Dead, first_dead(&Plotted { wiring, mark }))
+    asked(Reason::NodeLoose, first_bare(&wiring))?;
+    asked(Reason::NodeApart, first_apart(&wiring))?;
+    asked(Reason::CircuitDead, first_dead(&Plotted { wiring, mark }))
 }

@@ -1,4 +1,4 @@
-// A graph as its tables have it, lent: what the rules 5 to 9 are asked of, and what is lent once they are kept.
+// A graph as its tables have it, lent: whole, before the rules 5 to 9 are asked; a wiring with its marks; and what a call is lent of an accepted graph.
 ghost use Rattle.net.specs.Limits.{Counted};
 ghost use Rattle.net.specs.Good.{Marked};
 
@@ -26,7 +26,8 @@ pub struct Plotted<'a> {
     pub ghost marked: { Marked wiring.operations wiring.edges mark.now },
 }
 
-// A graph whose rules are kept: its wiring and marks, the time of each operation, and the fourth byte of each edge.
+// What is lent of an accepted graph: its wiring and marks, the time of each operation, and the fourth byte of each edge. That it is good is asked by a
+// clause (`IsGood`): joins and circuits can have several proofs, and what a ghost field says has one.
 #[derive(Clone, Copy)]
 pub struct Accepted<'a> {
     pub plotted: Plotted<'a>,

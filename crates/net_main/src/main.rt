@@ -1,4 +1,4 @@
-// Prints the dead transition, if there is one, and the distances from every transition, for document 01's graphs P1 to P6 at the start.
+// Prints the dead transition, if there is one, and the distances from every transition, for the worked graphs P1 to P6 at the start.
 #![tactic(auto)]
 
 ghost use Rattle.std.specs.Prelude.{◌<◌, ◌≤◌, length};

@@ -1,4 +1,4 @@
--- TBIO, TT and TCE (document 01, "Bounds").
+-- TBIO, TT and TCE.
 use Rattle.std.specs.Prelude.{◌≡◌, List, ◌+◌, ◌≤◌, ℕ}
 use Rattle.marked.specs.Sums.{upto}
 use Rattle.net.specs.Plan.{Plan}

@@ -23,7 +23,7 @@ use Rattle.reader.specs.declared.graph.Graph.{Graph}
 use Rattle.reader.proofs.Determined.{look_determined}
 use Rattle.reader.proofs.Framing.{counted?, laid?, signed?, sized?}
 use Rattle.std.specs.Prelude.{Err, Ok, Result}
-use Rattle.refusal.specs.declared.Reason.TheVariants.{Counts, Length, Tables, Trailer}
+use Rattle.refusal.specs.declared.Reason.TheVariants.{CountsWrong, LengthWrong, TablesWrong, TrailerWrong}
 use Rattle.refusal.specs.declared.Refusal.{Refusal}
 
 -- Rows 1 to 4, then the graph's.
@@ -32,19 +32,19 @@ module _ (f : List ℕ) where
   at_4 s g c (yes l) =
       let w : Framed f = record { sized = s; signed = g; counted = c; laid = l } in
       ((graph_verdict (plan_of f)).0, judged_after (frame_rows f) (graph_rows (plan_of f)) (framed_sound w) (graph_verdict (plan_of f)).1)
-  at_4 s g c (no n) = (Err (record { reason = Tables; place = 0 }), given (given_first (frame_rows f) (graph_rows (plan_of f)) (refused_4 f s g c n)))
+  at_4 s g c (no n) = (Err (record { reason = TablesWrong; place = 0 }), given (given_first (frame_rows f) (graph_rows (plan_of f)) (refused_4 f s g c n)))
 
   abbrev at_3 : Sized f → Signed f → Dec (CountsKept f) → Verdicts (look_rows f)
   at_3 s g (yes c) = at_4 s g c (laid? f)
-  at_3 s g (no n) = (Err (record { reason = Counts; place = 0 }), given (given_first (frame_rows f) (graph_rows (plan_of f)) (refused_3 f s g n)))
+  at_3 s g (no n) = (Err (record { reason = CountsWrong; place = 0 }), given (given_first (frame_rows f) (graph_rows (plan_of f)) (refused_3 f s g n)))
 
   abbrev at_2 : Sized f → Dec (Signed f) → Verdicts (look_rows f)
   at_2 s (yes g) = at_3 s g (counted? f)
-  at_2 s (no n) = (Err (record { reason = Trailer; place = 0 }), given (given_first (frame_rows f) (graph_rows (plan_of f)) (refused_2 f s n)))
+  at_2 s (no n) = (Err (record { reason = TrailerWrong; place = 0 }), given (given_first (frame_rows f) (graph_rows (plan_of f)) (refused_2 f s n)))
 
   abbrev at_1 : Dec (Sized f) → Verdicts (look_rows f)
   at_1 (yes s) = at_2 s (signed? f)
-  at_1 (no n) = (Err (record { reason = Length; place = 0 }), given (given_first (frame_rows f) (graph_rows (plan_of f)) (refused_1 f n)))
+  at_1 (no n) = (Err (record { reason = LengthWrong; place = 0 }), given (given_first (frame_rows f) (graph_rows (plan_of f)) (refused_1 f n)))
 
   abbrev verdicts : Verdicts (look_rows f)
   verdicts = at_1 (sized? f)

@@ -45,7 +45,7 @@ impl Graph {
 
     pub const LENGTH: usize = file::LENGTH;
 
-    // The graph of a file, where every row of the refusal table is kept.
+    // The graph of a file, where the rows 1 to 9 of the refusal table are kept.
     pub fn from_file(file: &[u8]) -> Result<Graph, Refusal>
         ensures { LookReply file.now result }
     {

@@ -1,25 +1,25 @@
 -- The number that the refusal table has for each reason, and what is told in its place where nothing is refused.
 use Rattle.std.specs.Prelude.{ℕ, Option, Some, None, Result, Ok, Err}
 use Rattle.refusal.specs.declared.Reason.{Reason}
-use Rattle.refusal.specs.declared.Reason.TheVariants.{Length, Trailer, Counts, Tables, Time, Edge, Loose, Apart, Dead, Marking, Unreached, Transition, Disabled, Room}
+use Rattle.refusal.specs.declared.Reason.TheVariants.{CircuitDead, CountsWrong, EdgeWrong, LengthWrong, MarkingUnreached, MarkingWrong, NodeApart, NodeLoose, RoomShort, TablesWrong, TimeWrong, TrailerWrong, TransitionDisabled, TransitionUnknown}
 use Rattle.refusal.specs.declared.Refusal.{Refusal}
 
 -- The row's number in the table.
 abbrev pub number_of : Reason → ℕ
-number_of Length = 1
-number_of Trailer = 2
-number_of Counts = 3
-number_of Tables = 4
-number_of Time = 5
-number_of Edge = 6
-number_of Loose = 7
-number_of Apart = 8
-number_of Dead = 9
-number_of Marking = 10
-number_of Unreached = 11
-number_of Transition = 12
-number_of Disabled = 13
-number_of Room = 14
+number_of LengthWrong = 1
+number_of TrailerWrong = 2
+number_of CountsWrong = 3
+number_of TablesWrong = 4
+number_of TimeWrong = 5
+number_of EdgeWrong = 6
+number_of NodeLoose = 7
+number_of NodeApart = 8
+number_of CircuitDead = 9
+number_of MarkingWrong = 10
+number_of MarkingUnreached = 11
+number_of TransitionUnknown = 12
+number_of TransitionDisabled = 13
+number_of RoomShort = 14
 
 -- The refusal of a reply, where it has one.
 abbrev pub refusal_of : {A : Type 0} → Result A Refusal → Option Refusal

@@ -7,20 +7,20 @@ ghost use Rattle.refusal.specs.Numbers.{number_of};
 // Why: the rows of the refusal table, each with its number there.
 #[derive(Clone, Copy, PartialEq, Eq)]
 pub enum Reason {
-    Length = 1,
-    Trailer = 2,
-    Counts = 3,
-    Tables = 4,
-    Time = 5,
-    Edge = 6,
-    Loose = 7,
-    Apart = 8,
-    Dead = 9,
-    Marking = 10,
-    Unreached = 11,
-    Transition = 12,
-    Disabled = 13,
-    Room = 14,
+    LengthWrong = 1,
+    TrailerWrong = 2,
+    CountsWrong = 3,
+    TablesWrong = 4,
+    TimeWrong = 5,
+    EdgeWrong = 6,
+    NodeLoose = 7,
+    NodeApart = 8,
+    CircuitDead = 9,
+    MarkingWrong = 10,
+    MarkingUnreached = 11,
+    TransitionUnknown = 12,
+    TransitionDisabled = 13,
+    RoomShort = 14,
 }
 
 // The rule that is broken, and the place that it reports.

@@ -1,4 +1,4 @@
--- From a file's bytes and report's reply: the number on each wait line meets demand 3.
+-- From a file's bytes and report's reply: the number on each wait line meets the three sentences of the wait.
 use mathlib.Core.List.{List}
 use Prim.Native.Nat.{ℕ, ◌≤◌}
 use lib.ListN.{length}
@@ -11,7 +11,7 @@ use Rattle.report.specs.Reply.{ReportReply, written}
 use Rattle.std.specs.Prelude.{Ok}
 use Rattle.report.proofs.Theorems.{numbers_demand, reported_good}
 
--- Demand 3 through the report.
+-- The three sentences of the wait through the report.
 pub report_demand : (f before after : List ℕ) (len : ℕ) → len ≤ length before → ReportReply f before (Ok len) after → WaitsPrinted f after len
 unfolding report_text
 report_demand f before after len h (written {g = g} {v = v} {ring = ring} {wait = wait} k e n p) =

@@ -1,4 +1,4 @@
--- The reply of report is one, every byte of the buffer included; it is blind to labels; 14 comes first; it fits its room; and each wait that it prints meets demand 3.
+-- The reply of report is one, every byte of the buffer included; it is blind to labels; 14 comes first; it fits its room; and each wait that it prints meets the three sentences of the wait.
 use mathlib.Core.Path.{◌≡◌, ◌∙◌, ap, refl, subst, sym}
 use mathlib.Core.List.{List}
 use Rattle.std.specs.Prelude.{Result, Ok, Err}
@@ -7,7 +7,7 @@ use native.Mathlib.Omega.{arith}
 use lib.ListN.{length}
 use Rattle.refusal.specs.Asking.{Given}
 use Rattle.refusal.specs.Numbers.{number_of}
-use Rattle.refusal.specs.declared.Reason.TheVariants.{Room}
+use Rattle.refusal.specs.declared.Reason.TheVariants.{RoomShort}
 use Rattle.refusal.specs.declared.Refusal.{Refusal}
 use Rattle.refusal.proofs.Asked.{given_here, lowest_whole}
 use Rattle.refusal.proofs.Determined.{given_unique, sound_not_given}
@@ -99,13 +99,13 @@ pub report_label_blind : (f g before : List ℕ) (r s : Result ℕ RefusedReport
 report_label_blind f g before r s after after' same p q = report_determined g before r s after after' (report_carries same p) q
 
 -- 14 is given just for a buffer without room,
-pub short_given : (before : List ℕ) → length before < report_bytes → Given (room_rows before) (record { reason = Room; place = 0 })
-short_given before l = given_here (record { reason = Room; place = 0 }) refl (lowest_whole (λ h. omega arith))
+pub short_given : (before : List ℕ) → length before < report_bytes → Given (room_rows before) (record { reason = RoomShort; place = 0 })
+short_given before l = given_here (record { reason = RoomShort; place = 0 }) refl (lowest_whole (λ h. omega arith))
 
 -- and comes first: such a buffer has no other reply, whatever the file is.
 pub report_short : (f before : List ℕ) (r : Result ℕ RefusedReport) (after : List ℕ) → length before < report_bytes → ReportReply f before r after
-    → (r ≡ Err (record { refusal = record { reason = Room; place = 0 }; length = 0 })) × (after ≡ before)
-report_short f before r after l p = report_determined f before r (Err (record { refusal = record { reason = Room; place = 0 }; length = 0 })) after before p (short (short_given before l))
+    → (r ≡ Err (record { refusal = record { reason = RoomShort; place = 0 }; length = 0 })) × (after ≡ before)
+report_short f before r after l p = report_determined f before r (Err (record { refusal = record { reason = RoomShort; place = 0 }; length = 0 })) after before p (short (short_given before l))
 
 -- Every report fits its room, a refusal's line too.
 pub report_fits_room : (f before : List ℕ) (r : Result ℕ RefusedReport) (after : List ℕ) → ReportReply f before r after → length_of r ≤ report_bytes
@@ -122,7 +122,7 @@ report_within (short p) = omega arith
 report_within {f} {before} {after} {r} (refused k e q) = omega (arith, put_length q, k.kept.0 0 refl, report_fits_room f before r after (refused k e q))
 report_within {f} {before} {after} {r} (written k e n q) = omega (arith, put_length q, k.kept.0 0 refl, report_fits_room f before r after (written k e n q))
 
--- Each wait in a report meets demand 3 from the start.
+-- Each wait in a report meets the three sentences of the wait from the start.
 pub numbers_demand : {g : Graph} {v : Measures} {ring : List ℕ} {wait : ℕ → ℕ} → Good g.operations g.edges g.times g.from g.to g.mark g.buffers
     → Numbers (shown g) v ring wait → (t : ℕ) → t < (net_of (shown g)).transitions → Demand3 (net_of (shown g)) (start_of (shown g)) t (wait t)
 numbers_demand ok n t l = wait_demand (wired_proper ok.wired) ok.live (n.waits t l)

@@ -1,4 +1,4 @@
--- Demand 3 through the report: what theorem `report_demand` says of the numbers on its wait lines.
+-- The three sentences of the wait through the report: what theorem `report_demand` says of the numbers on its wait lines.
 use Rattle.std.specs.Prelude.{◌≡◌, List, ◌++◌, ◌<◌, ℕ, take}
 use Rattle.marked.specs.Wait.{Demand3}
 use Rattle.net.specs.Graph.{net_of, start_of}
@@ -9,7 +9,7 @@ use Rattle.report_text.specs.Text.{wait_lines}
 use Rattle.report.specs.Reply.{report_rows}
 
 -- The first len bytes of the buffer end with a line for each transition of look's graph, in order;
--- the number on each meets the three sentences of demand 3 from the start, and no other number does.
+-- the number on each meets the three sentences of the wait from the start, and no other number does.
 pub record WaitsPrinted (f after : List ℕ) (len : ℕ) : Type 0 where
   pub graph : Graph
   pub ends : Ends f report_rows (accepted graph)

@@ -1,4 +1,4 @@
--- What report replies (document 01, "The report" and "Calls and refusals"), over look's reply.
+-- What report replies, over look's reply.
 use Rattle.std.specs.Prelude.{List, [], ◌∷◌, ◌≤◌, ℕ, length, Result, Ok, Err}
 use Rattle.refusal.specs.Numbers.{number_of}
 use Rattle.refusal.specs.Asking.{Ask, Given, Sound, asked}

@@ -20,7 +20,7 @@ pub fn report(file: &[u8], buffer: &mut [u8]) -> Result<usize, RefusedReport>
 {
     if !roomy(buffer.len()) {
         return Err(RefusedReport {
-            refusal: refuse(Reason::Room, 0),
+            refusal: refuse(Reason::RoomShort, 0),
             length: 0,
         });
     }

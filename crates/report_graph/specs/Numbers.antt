@@ -1,4 +1,4 @@
--- The numbers of a graph's report and its text (document 01, "The report").
+-- The numbers of a graph's report and its text.
 use Rattle.std.specs.Prelude.{List, ◌<◌, ℕ}
 use Rattle.marked.specs.Wait.{WaitSum}
 use Rattle.net.specs.Plan.{Plan}

@@ -1,4 +1,4 @@
--- A run's count and bytes are those of document 01's firings, entry by entry.
+-- A run's count and bytes are those of its firings, entry by entry.
 use mathlib.Core.Path.{◌≡◌, ap, refl, subst, sym}
 use mathlib.Core.List.{List}
 use Prim.Native.Nat.{◌<◌, suc, ℕ}

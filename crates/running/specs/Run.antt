@@ -1,4 +1,4 @@
--- A run (document 01): its entries one after the other, up to the first refused.
+-- A run: its entries one after the other, up to the first refused.
 use Rattle.std.specs.Prelude.{List, [], ◌∷◌, suc, ℕ, Err, Ok}
 use Rattle.refusal.specs.declared.Refusal.{Refusal}
 use Rattle.marked.specs.Net.{Net}

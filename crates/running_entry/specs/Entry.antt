@@ -1,4 +1,4 @@
--- One entry of a run (document 01): the record and the marking before it, its answer, and both after it.
+-- One entry of a run: the record and the marking before it, its answer, and both after it.
 use Rattle.std.specs.Prelude.{◌≡◌, List, ◌*◌, ◌+◌, ◌<◌, ℕ, length, Err, Ok}
 use Rattle.marked.specs.Net.{Net, at}
 use Rattle.net.specs.Plan.{wires}

@@ -26,7 +26,7 @@ use Rattle.stepping_graph.specs.helpers.Work.GraphStepped.{kept as step_kept, ta
 use Rattle.stepping_graph.specs.helpers.Work.GraphRun.{kept as run_kept, taken as run_taken}
 use Rattle.std.specs.Prelude.{Err, Ok}
 use Rattle.refusal.specs.Asking.{Given, Sound, Verdict}
-use Rattle.refusal.specs.declared.Reason.TheVariants.{Marking}
+use Rattle.refusal.specs.declared.Reason.TheVariants.{MarkingWrong}
 
 -- What look refuses, the calls refuse;
 module _ {f m : List ℕ} {r : Refusal} (look : LookReply f (Err r)) where
@@ -46,8 +46,8 @@ module _ {f m : List ℕ} {g : Graph} (look : LookReply f (Ok g)) (a : Accepted)
       let start : AtStart (plan_of_accepted a) z = record { fits = w.long ∙ h; tokens = λ p b. w.filled p (omega arith) b } in
       started (passed look (subst (λ (p : Plan). Sound (start_rows m p)) lent (sound_next (λ x p. h) sound_none))) (subst (λ (p : Plan). AtStart p z) lent start)
   start_reply (unfit h) =
-      let none : Given (start_rows m (plan_of_accepted a)) (record { reason = Marking; place = 0 }) = given_here (record { reason = Marking; place = 0 }) refl (lowest_whole h) in
-      start_refused (stopped look (subst (λ (p : Plan). Given (start_rows m p) (record { reason = Marking; place = 0 })) lent none))
+      let none : Given (start_rows m (plan_of_accepted a)) (record { reason = MarkingWrong; place = 0 }) = given_here (record { reason = MarkingWrong; place = 0 }) refl (lowest_whole h) in
+      start_refused (stopped look (subst (λ (p : Plan). Given (start_rows m p) (record { reason = MarkingWrong; place = 0 })) lent none))
 
   -- The rows of the graph that is lent are those of the graph that is shown.
   kept_rows : Sound (run_rows m (plan_of_plotted a.plotted)) → Sound (run_rows m (shown g))

@@ -1,4 +1,4 @@
--- Markings that the calls leave are reached; a run is document 01's firings, and its entries one after the other.
+-- Markings that the calls leave are reached; a run is its firings, and its entries one after the other.
 use mathlib.Core.Path.{◌≡◌, ◌∙◌, refl, subst, sym}
 use mathlib.Core.List.{List, [], ◌++◌, ◌∷◌}
 use Prim.Native.Nat.{suc, ℕ}

@@ -18,7 +18,7 @@ use Rattle.stepping.specs.Replies.{AtStart, StartReply}
 use Rattle.stepping.specs.Replies.StartReply.{refused, started}
 use Rattle.std.specs.Prelude.{Err, Ok, Result}
 use Rattle.refusal.specs.Asking.{Verdict}
-use Rattle.refusal.specs.declared.Reason.TheVariants.{Marking}
+use Rattle.refusal.specs.declared.Reason.TheVariants.{MarkingWrong}
 
 -- The n values of h from i on.
 abbrev listed : ℕ → (ℕ → ℕ) → ℕ → List ℕ
@@ -56,7 +56,7 @@ module _ (f m : List ℕ) where
   fitting {g} look (yes h) =
       record { reply = Ok tt; bytes = start_bytes (shown g); allowed = started (passed look (sound_next (λ x p. h) sound_none)) (at_start (shown g)) }
   fitting look (no h) =
-      let r : Refusal = record { reason = Marking; place = 0 } in
+      let r : Refusal = record { reason = MarkingWrong; place = 0 } in
       record { reply = Err r; bytes = m; allowed = refused (stopped look (given_here r refl (lowest_whole h))) }
 
   replied : (l : Result Graph Refusal) → LookReply f l → Replied f m

@@ -1,4 +1,4 @@
--- What `start`, `step` and `run` reply (document 01, "Calls and refusals"), over look's reply, and the bytes that they leave.
+-- What `start`, `step` and `run` reply, over look's reply, and the bytes that they leave.
 use Rattle.std.specs.Prelude.{◌≡◌, List, ◌<◌, ℕ, Err, Ok}
 use Rattle.refusal.specs.declared.Refusal.{Refusal}
 use Rattle.marked.specs.Net.{at}

@@ -15,7 +15,7 @@ pub fn start_graph(g: &Plotted, marking: &mut [u8]) -> Verdict
     ensures { GraphStarted g.now.wiring.operations g.now.wiring.edges g.now.mark.now marking.old result marking.new }
 {
     if marking.len() != g.wiring.places() {
-        return Err(refuse(Reason::Marking, 0));
+        return Err(refuse(Reason::MarkingWrong, 0));
     }
     start_marking(g, marking);
     Ok(())

@@ -1,4 +1,4 @@
--- TBO (document 01, "Bounds").
+-- TBO.
 use Rattle.std.specs.Prelude.{ℕ}
 use Rattle.marked.specs.Bounds.{Largest, Reduced}
 use Rattle.net.specs.Plan.{Plan}

@@ -1,4 +1,4 @@
--- The wait's reply is one, is blind to labels, answers demand 3, and is short.
+-- The wait's reply is one, is blind to labels, meets the three sentences of the wait, and is short.
 use mathlib.Core.Path.{◌≡◌, ap, refl, subst}
 use mathlib.Core.List.{List}
 use Prim.Native.Nat.{◌≤◌, ℕ}
@@ -40,7 +40,7 @@ wait_carries s (refused p) = refused (outcome_carries s p)
 pub wait_label_blind : (f g m : List ℕ) (t : ℕ) (r s : Result ℕ Refusal) → SameButLabels f g → WaitReply f m t r → WaitReply g m t s → r ≡ s
 wait_label_blind f g m t r s same p q = wait_determined g m t r s (wait_carries same p) q
 
--- Demand 3, end to end: the number that `wait` returns meets all three sentences about all firing sequences of look's graph, and is the only one that does.
+-- The three sentences of the wait, end to end: the number that `wait` returns meets all three sentences about all firing sequences of look's graph, and is the only one that does.
 pub wait_answers_demand : (f m : List ℕ) (t w : ℕ) (g : Graph) → LookReply f (Ok g) → WaitReply f m t (Ok w) → Demanded g m t w
 wait_answers_demand f m t w g p (waits (passed {g = h} q s) x) =
     let a = accepted_good f q in

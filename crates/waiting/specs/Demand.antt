@@ -1,4 +1,4 @@
--- Demand 3, end to end: what theorem `wait_answers_demand` says of the number that wait returns.
+-- The three sentences of the wait, end to end: what theorem `wait_answers_demand` says of the number that wait returns.
 use Rattle.std.specs.Prelude.{◌≡◌, List, ℕ}
 use Rattle.marked.specs.Net.{at}
 use Rattle.marked.specs.Wait.{Demand3}

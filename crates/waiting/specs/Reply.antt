@@ -1,4 +1,4 @@
--- What wait replies (document 01, "Calls and refusals"), over look's reply. Nothing is written.
+-- What wait replies, over look's reply. Nothing is written.
 use Rattle.std.specs.Prelude.{List, ℕ, Err, Ok, Result}
 use Rattle.refusal.specs.declared.Refusal.{Refusal}
 use Rattle.marked.specs.Net.{at}

@@ -14,7 +14,7 @@ use Rattle.accepting.specs.Rows.{row12, run_rows}
 use Rattle.waiting_graph.specs.helpers.Work.{GraphWaits}
 use Rattle.waiting_graph.specs.helpers.Work.GraphWaits.{refused, waits}
 use Rattle.std.specs.Prelude.{Err, Ok}
-use Rattle.refusal.specs.declared.Reason.TheVariants.{Transition}
+use Rattle.refusal.specs.declared.Reason.TheVariants.{TransitionUnknown}
 
 module _ {g : Plan} {m : List ℕ} {t : ℕ} where
   -- Refused by 10 or 11,
@@ -22,9 +22,9 @@ module _ {g : Plan} {m : List ℕ} {t : ℕ} where
   answers_row h = refused (given_first (run_rows m g) (row12 t g ∷ []) h)
 
   -- by 12,
-  pub answers_12 : Sound (run_rows m g) → 3 * g.operations + 2 ≤ t → GraphWaits g m t (Err (record { reason = Transition; place = 0 }))
+  pub answers_12 : Sound (run_rows m g) → 3 * g.operations + 2 ≤ t → GraphWaits g m t (Err (record { reason = TransitionUnknown; place = 0 }))
   answers_12 h l =
-      refused (given_next h.kept.0 (given_next h.kept.1.0 (given_here (record { reason = Transition; place = 0 }) refl (lowest_whole (λ k. omega arith)))))
+      refused (given_next h.kept.0 (given_next h.kept.1.0 (given_here (record { reason = TransitionUnknown; place = 0 }) refl (lowest_whole (λ k. omega arith)))))
 
   -- or accepted, with the sum.
   pub answers_wait : {w : ℕ} → Sound (run_rows m g) → t < 3 * g.operations + 2 → WaitSum (net_of g) (at m) t w → GraphWaits g m t (Ok w)

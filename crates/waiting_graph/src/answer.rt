@@ -15,7 +15,7 @@ pub fn answer(g: &Plotted, marking: &[u8], transition: u16) -> Result<u32, Refus
     accepts(g, marking)?;
     let t = usize::from(transition);
     if g.wiring.transitions() <= t {
-        return Err(refuse(Reason::Transition, 0));
+        return Err(refuse(Reason::TransitionUnknown, 0));
     }
     Ok(wait_sum(&g.wiring, marking, t))
 }

@@ -9,12 +9,12 @@ use Rattle.accepting.specs.Rows.{run_rows}
 use Rattle.firing.specs.Step.{Steps}
 use Rattle.running.specs.declared.repeat.Ran.{Ran}
 use Rattle.running.specs.Run.{Runs}
-use Rattle.refusal.specs.declared.Reason.TheVariants.{Marking}
+use Rattle.refusal.specs.declared.Reason.TheVariants.{MarkingWrong}
 
 -- The buffer has one byte a place and is filled, or 10 is given.
 pub data GraphStarted (n e : ℕ) (mark m : List ℕ) : Verdict → List ℕ → Type 0 where
   filled : {z : List ℕ} → length m ≡ 3 * n + 2 * e → Written n mark 0 (3 * n + 2 * e) m z → GraphStarted n e mark m (Ok tt) z
-  unfit : (length m ≡ 3 * n + 2 * e → ⊥) → GraphStarted n e mark m (Err (record { reason = Marking; place = 0 })) m
+  unfit : (length m ≡ 3 * n + 2 * e → ⊥) → GraphStarted n e mark m (Err (record { reason = MarkingWrong; place = 0 })) m
 
 -- The marking is accepted and the step is taken, or 10 or 11 is given.
 pub data GraphStepped (g : Plan) (m : List ℕ) (t : ℕ) : Verdict → List ℕ → Type 0 where
