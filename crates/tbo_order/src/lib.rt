@@ -72,7 +72,8 @@ pub struct Taken {
     pub put: usize,
 }
 
-// The item at i of left goes to the end of the order, or is kept.
+// The item at i of left goes to the end of the order, or is kept. (The counts and arrays are no fields of one struct: a pass has the counts in registers,
+// and takes longer otherwise.)
 fn take(
     g: &Wiring,
     marking: &[u8; PLACES],
