@@ -1,9 +1,14 @@
 -- Tests of markings of an accepted graph: the start, a marking that no firings lead to, and a step's 13.
-use mathlib.Core.Path.{refl}
+use mathlib.Core.Path.{◌≡◌, refl}
 use mathlib.Core.List.{List, [], ◌++◌, ◌∷◌}
 use Prim.Native.Nat.{◌+◌, suc, zero, ℕ}
 use lib.ListN.{length, replicate}
+use Rattle.std.proofs.Common.{Err}
 use Rattle.refusal.specs.Asking.{Given, Sound}
+use Rattle.refusal.specs.Numbers.{number_of}
+use Rattle.refusal.specs.declared.Reason.{Reason}
+use Rattle.refusal.specs.declared.Reason.TheVariants.{MarkingUnreached, TransitionDisabled}
+use Rattle.refusal.proofs.Numbers.{number_injective}
 use Rattle.refusal.proofs.Asked.{given_here, given_next, lowest_whole, sound_next, sound_none}
 use Rattle.marked.specs.Net.{Net, at}
 use Rattle.marked.specs.Distance.{Distances}
@@ -17,7 +22,6 @@ use Rattle.reader.specs.declared.graph.Graph.{Graph}
 use Rattle.accepting.specs.Rows.{Marking, Reachable, run_rows, start_rows, wait_rows}
 use Rattle.firing.specs.Step.{Steps, waits}
 use Rattle.marked.specs.Firing.{LowestEmpty}
-use Rattle.firing.specs.declared.step.Answer.TheVariants.{Refused}
 use Rattle.stepping.specs.Replies.{AtStart}
 use Rattle.cases.specs.Said.{by}
 use Rattle.cases.proofs.Trying.{Tried, and, so, then, try}
@@ -68,13 +72,13 @@ module _ (g : Graph) (ok : Good g.operations g.edges g.times g.from g.to g.mark 
         so (λ x. reached_by d e x.0 x.1) (and (distances? net start 0 d) (distances? net (at m) 0 e))
 
     -- A marking that no firings lead to is refused by 11: by step and run, and by wait.
-    pub unreached : Marking (shown g) m → (Reachable (shown g) m → ⊥) → Given (run_rows m (shown g)) (by 11 0) × ((t : ℕ) → Given (wait_rows m t (shown g)) (by 11 0))
-    unreached x y = (given_next (λ _ _. x) (given_here (by 11 0) refl (lowest_whole y)), λ t. given_next (λ _ _. x) (given_here (by 11 0) refl (lowest_whole y)))
+    pub unreached : Marking (shown g) m → (Reachable (shown g) m → ⊥) → Given (run_rows m (shown g)) (by MarkingUnreached 0) × ((t : ℕ) → Given (wait_rows m t (shown g)) (by MarkingUnreached 0))
+    unreached x y = (given_next (λ _ _. x) (given_here (by MarkingUnreached 0) refl (lowest_whole y)), λ t. given_next (λ _ _. x) (given_here (by MarkingUnreached 0) refl (lowest_whole y)))
 
-    abbrev pub unreached? : (k x : ℕ) → Tried (Given (run_rows m (shown g)) (by k x) × ((t : ℕ) → Given (wait_rows m t (shown g)) (by k x)))
+    abbrev pub unreached? : (k : Reason) (x : ℕ) → Tried (Given (run_rows m (shown g)) (by k x) × ((t : ℕ) → Given (wait_rows m t (shown g)) (by k x)))
     unreached? k x =
-        then reached? (λ r. so (λ y. rw (y.0, y.1.0) (unreached y.1.1.0 y.1.1.1))
-        (and (try (eq? k 11)) (and (try (eq? x 0)) (and (try marking?) (try (given? r (no (λ z. z))))))))
+        then reached? (λ r. so (λ y. let e : k ≡ MarkingUnreached = number_injective y.0 in rw (e, y.1.0) (unreached y.1.1.0 y.1.1.1))
+        (and (try (eq? (number_of k) 11)) (and (try (eq? x 0)) (and (try marking?) (try (given? r (no (λ z. z))))))))
 
     -- p is the lowest empty input place of t.
     abbrev lowest? : (t p : ℕ) → Tried (LowestEmpty net (at m) t p)
@@ -83,10 +87,10 @@ module _ (g : Graph) (ok : Good g.operations g.edges g.times g.from g.to g.mark 
         (try (both? (lt? p net.places) (both? (eq? (net.dst p) t) (both? (eq? (at m p) 0) (each? (λ q. given? (eq? (net.dst q) t) (le? 1 (at m q))) p)))))
 
     -- The number of a transition that is not enabled.
-    abbrev waits? : (t k x : ℕ) → Tried (Steps net m t (Refused (by k x)) m)
-    waits? t k x = so (λ y. rw y.0 (waits y.1.0 y.1.1)) (and (try (eq? k 13)) (and (try (lt? t net.transitions)) (lowest? t x)))
+    abbrev waits? : (t : ℕ) (k : Reason) (x : ℕ) → Tried (Steps net m t (Err (by k x)) m)
+    waits? t k x = so (λ y. let e : k ≡ TransitionDisabled = number_injective y.0 in rw e (waits y.1.0 y.1.1)) (and (try (eq? (number_of k) 13)) (and (try (lt? t net.transitions)) (lowest? t x)))
 
     -- A step that is refused, from an accepted marking.
-    abbrev pub step? : (t k x : ℕ) → Tried (Sound (run_rows m (shown g)) × Steps net m t (Refused (by k x)) m)
+    abbrev pub step? : (t : ℕ) (k : Reason) (x : ℕ) → Tried (Sound (run_rows m (shown g)) × Steps net m t (Err (by k x)) m)
     step? t k x =
         then reached? (λ r. and (so (λ y. sound_next (λ _ _. y.0) (sound_next (λ _ _. y.1) sound_none)) (and (try marking?) (try r))) (waits? t k x))

@@ -1,5 +1,4 @@
 -- The table of the worked graphs holds: one test over its cases is passed by computing, and gives what they say.
-use mathlib.Core.Path.{refl}
 use native.Mathlib.Decide.{ℕ_discrete}
 use Rattle.little.specs.Little.{quad, word}
 use Rattle.marked.specs.Sums.{sum, upto}
@@ -18,7 +17,7 @@ use Rattle.cases.proofs.Sentences.{said?}
 
 -- The test of a case: look reads its file once, and each sentence is tested.
 abbrev case? : (c : Case) → Tried (True c)
-case? (case times edges said) = let f = file_of times edges in every (said? f (look_of f) (look_total f) (look_of f).verdict refl) said
+case? (case times edges said) = let f = file_of times edges in every (said? f (look_of f) (look_total f)) said
 
 -- P1 to P10 hold.
 pub cases_hold : P1_to_P10

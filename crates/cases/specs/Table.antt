@@ -1,6 +1,7 @@
 -- The table P1 to P10: each case is a graph, and what is said of it.
 use Rattle.std.specs.Prelude.{List, [], ◌∷◌, ℕ, set}
 use Rattle.little.specs.Text.{bytes}
+use Rattle.refusal.specs.declared.Reason.TheVariants.{CircuitDead, MarkingUnreached, NodeApart, NodeLoose, TransitionDisabled}
 use Rattle.bounds_graph.specs.declared.reply.Measures.{Measures}
 use Rattle.cases.specs.Files.{Arrow, file_of, plain, star}
 use Rattle.cases.specs.Said.{Holds, Said, circuit_is, marking_refused, no_circuit, refused, report_is, step_refused, tbio_is, tbo_is, tt_is}
@@ -49,19 +50,19 @@ table =
     ∷ case (5 ∷ 5 ∷ 5 ∷ []) (plain 0 1 ∷ plain 1 2 ∷ star 2 3 ∷ star 3 1 ∷ plain 3 4 ∷ [])
     (tbo_is 15 2 ∷ tbio_is 5 ∷ tt_is 10 ∷ circuit_is (0 ∷ 1 ∷ 11 ∷ 3 ∷ 4 ∷ 13 ∷ 6 ∷ 7 ∷ 15 ∷ []) ∷ [])
     -- P4
-    ∷ case (1 ∷ 1 ∷ []) (plain 0 1 ∷ plain 1 2 ∷ star 1 2 ∷ plain 2 3 ∷ []) (refused 9 3 ∷ no_circuit ∷ [])
+    ∷ case (1 ∷ 1 ∷ []) (plain 0 1 ∷ plain 1 2 ∷ star 1 2 ∷ plain 2 3 ∷ []) (refused CircuitDead 3 ∷ no_circuit ∷ [])
     -- P5
     ∷ case (5 ∷ []) (plain 0 1 ∷ star 1 1 ∷ plain 1 2 ∷ []) (tbo_is 5 1 ∷ [])
     -- P6
-    ∷ case (5 ∷ []) (plain 0 1 ∷ plain 1 1 ∷ plain 1 2 ∷ []) (refused 9 1 ∷ [])
+    ∷ case (5 ∷ []) (plain 0 1 ∷ plain 1 1 ∷ plain 1 2 ∷ []) (refused CircuitDead 1 ∷ [])
     -- P7
-    ∷ P2 (marking_refused moved 11 0 ∷ [])
+    ∷ P2 (marking_refused moved MarkingUnreached 0 ∷ [])
     -- P8
-    ∷ P1 (step_refused 1 13 3 ∷ [])
+    ∷ P1 (step_refused 1 TransitionDisabled 3 ∷ [])
     -- P9
-    ∷ case (1 ∷ 1 ∷ []) (plain 0 1 ∷ plain 1 3 ∷ star 2 2 ∷ []) (refused 8 2 ∷ [])
+    ∷ case (1 ∷ 1 ∷ []) (plain 0 1 ∷ plain 1 3 ∷ star 2 2 ∷ []) (refused NodeApart 2 ∷ [])
     -- P10
-    ∷ case (1 ∷ 1 ∷ []) (plain 0 1 ∷ plain 0 2 ∷ plain 1 3 ∷ []) (refused 7 2 ∷ [])
+    ∷ case (1 ∷ 1 ∷ []) (plain 0 1 ∷ plain 0 2 ∷ plain 1 3 ∷ []) (refused NodeLoose 2 ∷ [])
     ∷ []
 
 -- P1 to P10 as a single statement: every case of the table holds (theorem `cases_hold`).
