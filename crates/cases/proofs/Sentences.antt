@@ -25,7 +25,7 @@ use Rattle.bounds_graph.specs.declared.reply.Measures.{Measures}
 use Rattle.report.specs.Reply.{written}
 use Rattle.report_graph.specs.Numbers.{text_of}
 use Rattle.report_text.specs.Room.{report_bytes}
-use Rattle.cases.specs.Said.{Along, Begun, Holds, LookRefuses, MarkingRefused, NoCircuit, Of, ReportIs, StepRefuses, by, edge, onward}
+use Rattle.cases.specs.Said.{Along, Begun, Holds, LookRefuses, MarkingRefused, NoCircuit, Of, ReportIs, StepRefuses, edge, onward}
 use Rattle.cases.specs.Said.{Said, circuit_is, marking_refused, no_circuit, refused, report_is, step_refused, tbio_is, tbo_is, tt_is}
 use Rattle.cases.proofs.Trying.{Tried, and, fails, so, try}
 use Rattle.cases.proofs.Bounds.{tbo?, the_circuit?}

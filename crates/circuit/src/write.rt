@@ -27,7 +27,7 @@ fn count_back(w: &Ways, via: &[u16; TRANSITIONS], root: usize, goal: usize) -> u
     k
 }
 
-// Writes the circuit that starts with p and that via notes. The answer is how many places it has.
+// Writes the circuit that starts with p and that via notes, from its last place back: so k counts down. The answer is how many places it has.
 pub fn hand_out(w: &Ways, via: &[u16; TRANSITIONS], p: usize, ring: &mut [u16]) -> usize
     requires lowest_back { of_ways LowestBack w.now via.now p }
     requires room { w.now.transitions ≤ length ring.old }
