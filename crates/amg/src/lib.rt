@@ -8,7 +8,7 @@ use amg_word::numbers::bounds_values;
 use amg_word::word::pack;
 use net::{EDGES, OPERATIONS};
 
-// Where the file is accepted, counts holds N and E, and the other arrays the times and the rows.
+// Where the file is accepted, counts holds N and E, and the other arrays the times and the rows: C lends each by itself.
 pub fn amg_look(
     file: &[u8],
     counts: &mut [u32; 2],

@@ -8,7 +8,6 @@ ghost use Rattle.input.specs.Begins.{Begins};
 use std::io;
 use std::io::Read;
 
-// A read may give fewer bytes than there is room for, so `done` grows by what each gave.
 // Reads until the buffer is full or the input ends, and tells how many bytes there are. What lies beyond the buffer is left unread.
 // A read that fails leaves the rest of the input, behind what was read before it.
 pub fn fill<R: Read>(input: &mut R, buffer: &mut [u8]) -> io::Result<usize>
@@ -18,6 +17,7 @@ pub fn fill<R: Read>(input: &mut R, buffer: &mut [u8]) -> io::Result<usize>
     ensures err { OnErr result ((bs : List ℕ) × Consumes (R.remaining input.old) (R.remaining input.new) bs) }
     ensures first { IfOk result (λ n. Begins (R.remaining input.old) (length buffer.new) (take n buffer.new)) }
 {
+    // A read may give fewer bytes than there is room for, so the end grows by what each gave.
     let mut done = 0;
     while done < buffer.len() {
         let n = input.read(&mut buffer[done..])?;

@@ -16,7 +16,7 @@ fn line<W: Write>(out: &mut W, name: &[u8], lowest: u64, highest: u64) -> io::Re
     writeln!(out, " {lowest} {highest}")
 }
 
-// Every limit.
+// Every limit. All are cast: a usize has no From to u64, and of a constant given to From the proof did not close.
 fn show<W: Write>(out: &mut W) -> io::Result<()>
     ensures { OnOk result (Appends (W.contents out.old) (W.contents out.new) limits) }
 {

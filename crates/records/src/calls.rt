@@ -89,7 +89,7 @@ fn report_line<W: Write>(output: &mut W, file: &[u8], asked: usize) -> io::Resul
 fn first(list: &[u16]) -> u16
     ensures { result ≡ first_of list.now }
 {
-    list.first().copied().unwrap_or(65535)
+    list.first().copied().unwrap_or(u16::MAX)
 }
 
 // The call that the letter names; false where it names none.

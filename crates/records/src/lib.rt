@@ -125,6 +125,7 @@ fn each<W: Write>(output: &mut W, s: &[u8], copy: &mut [u8]) -> io::Result<()>
     requires { Twice s.now copy.old }
     ensures { copy.old ≡ s.now → OnOk result (Lines s.now 0 (W.contents output.old) (W.contents output.new)) }
 {
+    // Each record tells where the next begins.
     let mut at = 0;
     while at < s.len() {
         at = record(output, s, copy, at)?;

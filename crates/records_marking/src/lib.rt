@@ -22,6 +22,7 @@ fn times<W: Write>(output: &mut W, g: &Graph) -> io::Result<()>
     Ok(())
 }
 
+// The columns of the edges are three arrays, as the C interface takes them.
 fn rows<W: Write>(output: &mut W, g: &Graph) -> io::Result<()>
     requires { g.now.edges ≤ most_edges }
     ensures { OnOk result (Appends (W.contents output.old) (W.contents output.new)

@@ -1,5 +1,5 @@
 -- One entry more.
-use Rattle.std.proofs.Common.{◌≡◌, ◌∙◌, ◌+◌, ◌/◌, ap, sym, rules, take, take_all, length, ◌++◌, [], ◌∷◌, get_or, arith}
+use Rattle.std.proofs.Common.{◌≡◌, ◌+◌, ◌/◌, rules, take, take_all, length, ◌++◌, [], ◌∷◌, get_or, arith}
 use Rattle.std.proofs.lemmas.List.{take_more_set}
 use native.Mathlib.Numerals.{add-one}
 use lib.Seq.{take-suc}
@@ -14,10 +14,11 @@ loop-k-preserved c =
     let put = take_more_set c.loop-k.out k c.word.result (omega (arith, c.loop-k.invariant.0, c.loop-k-test.true, c.requires)) in
     let has : take (k + 1) (words s) ≡ take k (words s) ++ (get_or (words s) k 0 ∷ []) = rw (add-one k) (take-suc (words s) k 0 (omega (arith, words_length s, c.loop-k-test.true))) in
     let is = words_at s k c.loop-k-test.true in
-    (search rules, put ∙ ap (λ l. l ++ (c.word.result ∷ [])) c.loop-k.invariant.1 ∙ ap (λ x. take k (words s) ++ (x ∷ [])) (c.word.ensures ∙ sym is) ∙ sym has)
+    (search rules, cc)
 
 pub returns : goal.returns
 returns c =
     let s = c.args.s.now in
     let e : c.loop-k.k ≡ length s / 2 = omega (arith, c.loop-k.auto.k-end, c.loop-k-test.false) in
-    ap (λ n. take n c.loop-k.out) (sym e) ∙ c.loop-k.invariant.1 ∙ take_all c.loop-k.k (words s) (omega (arith, words_length s, e))
+    let all = take_all c.loop-k.k (words s) (omega (arith, words_length s, e)) in
+    cc
