@@ -4,7 +4,6 @@ ghost use Rattle.marked.specs.Net.{at};
 ghost use Rattle.circuit_tight.specs.helpers.Lists.{Listed, drawn};
 ghost use Rattle.circuit_tight.specs.helpers.Entries.{sources, targets};
 ghost use Rattle.circuit_search.specs.helpers.Ways.{FirstNoted};
-ghost use Rattle.circuit_search.specs.helpers.Turns.{LowestBack};
 ghost use Rattle.circuit_search.specs.helpers.Said.{of_ways};
 ghost use Rattle.circuit.specs.helpers.Writing.{WayCounted, Written};
 
@@ -29,8 +28,9 @@ fn count_back(w: &Ways, via: &[u16; TRANSITIONS], root: usize, goal: usize) -> u
 
 // Writes the circuit that starts with p and that via notes, from its last place back: so k counts down. The answer is how many places it has.
 pub fn hand_out(w: &Ways, via: &[u16; TRANSITIONS], p: usize, ring: &mut [u16]) -> usize
-    requires lowest_back { of_ways LowestBack w.now via.now p }
+    requires listed { (p < w.now.places) × Listed (targets w.now.lists.now.entries) p }
     requires room { w.now.transitions ≤ length ring.old }
+    requires first_noted { FirstNoted (drawn w.now.transitions w.now.places (sources w.now.lists.now.entries) (targets w.now.lists.now.entries)) (Listed (targets w.now.lists.now.entries)) (at (targets w.now.lists.now.entries) p) (at (sources w.now.lists.now.entries) p) (at via.now) }
     ensures { of_ways Written w.now p ring.old result ring.new }
 {
     let goal = usize::from(w.lists.entries[p].source);

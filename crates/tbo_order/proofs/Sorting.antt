@@ -8,23 +8,22 @@ use native.Mathlib.Decide.{dec_lt, ℕ_discrete}
 use lib.ListN.{length, length-set, set}
 use lib.Seq.{get_or-set_other, get_or-set_same}
 use Rattle.marked.specs.Net.{at}
-use Rattle.net.specs.Good.{Wired}
 use Rattle.tbo_order.specs.helpers.Items.{Enlisted, Item, ItemAt, Ordered, Sorting, Where}
 use Rattle.tbo_order.specs.helpers.Items.Where.{kept, next, put}
 
-module _ {n e : ℕ} {from to left ord : List ℕ} {i l m c : ℕ} (s : Sorting n e left ord i l m c) (o : Wired n e from to) (h : i < l) where
+module _ {n e : ℕ} {left ord : List ℕ} {i l m c : ℕ} (s : Sorting n e left ord i l m c) (few : n ≤ 40) (many : e ≤ 128) (h : i < l) where
   pub sort_item : Item n e (at left i)
   sort_item = s.lefts i h
 
   -- There is room for it in either list.
   pub room_put : c < 168
-  room_put = omega (arith, s.behind, s.sum, o.operations, o.edges)
+  room_put = omega (arith, s.behind, s.sum)
 
   pub room_kept : m < 168
-  room_kept = omega (arith, s.behind, s.sum, o.operations, o.edges)
+  room_kept = omega (arith, s.behind, s.sum)
 
   pub room_next : i < 168
-  room_next = omega (arith, s.most, o.operations, o.edges)
+  room_next = omega (arith, s.most)
 
   module _ {x : ℕ} (ex : x ≡ at left i) where
     put_where : {y : ℕ} → Where left ord i l m c y → Where left (set ord c x) (i + 1) l m (c + 1) y

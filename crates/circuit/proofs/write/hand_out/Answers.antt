@@ -9,7 +9,7 @@ use Rattle.circuit.proofs.Fills.{fill_end, fill_left, fill_on, fill_start, root_
 use Rattle.circuit.proofs.write.hand_out.Goals as goal
 
 pub loop-x-init : goal.loop-x-init
-loop-x-init c = fill_start (root_in c.args.w.now.threaded c.requires.lowest_back.inside c.requires.lowest_back.listed (target_told c.args.w.now.lists.now.entries c.args.p c.from-root.ensures)) c.count_back-len.ensures
+loop-x-init c = fill_start (root_in c.args.w.now.threaded c.requires.listed.0 c.requires.listed.1 (target_told c.args.w.now.lists.now.entries c.args.p c.from-root.ensures)) c.count_back-len.ensures
 
 pub offset_bounds-via-x : goal.offset_bounds-via-x
 offset_bounds-via-x c =
@@ -39,5 +39,5 @@ loop-x-preserved c =
 
 pub returns : goal.returns
 returns c =
-    let apart = root_apart c.args.w.now.threaded c.requires.lowest_back.inside c.requires.lowest_back.listed (target_told c.args.w.now.lists.now.entries c.args.p c.from-root.ensures) (source_told c.args.w.now.lists.now.entries c.args.p c.from-goal.ensures) in
+    let apart = root_apart c.args.w.now.threaded c.requires.listed.0 c.requires.listed.1 (target_told c.args.w.now.lists.now.entries c.args.p c.from-root.ensures) (source_told c.args.w.now.lists.now.entries c.args.p c.from-goal.ensures) in
     fill_end c.args.w.now.threaded c.loop-x.invariant c.requires.room (target_told c.args.w.now.lists.now.entries c.args.p c.from-root.ensures) (source_told c.args.w.now.lists.now.entries c.args.p c.from-goal.ensures) apart c.loop-x-test.false
