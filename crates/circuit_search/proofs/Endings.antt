@@ -1,18 +1,20 @@
 -- The start of the search on its arrays, what is left to try, and what it answers.
-use mathlib.Core.Path.{◌≡◌, ap, refl, ◌∙◌}
+use mathlib.Core.Path.{◌≡◌, ap, refl, sym, ◌∙◌, subst}
 use mathlib.Core.Logic.{◌≢◌}
 use mathlib.Core.Bool.{Bool, true, false}
 use mathlib.Core.List.{List, []}
 use Prim.Native.Nat.{◌*◌, ◌+◌, ◌-◌, ◌<◌, ◌≤◌, suc, zero, ℕ}
 use native.Mathlib.Omega.{arith}
+use native.Mathlib.Decide.{ℕ_discrete}
 use lib.ListN.{get_or, length, length-set, replicate, set}
 use lib.Seq.{get_or-set_other, get_or-set_same}
+use Rattle.std.specs.Prelude.{None}
 use Rattle.marked.specs.Sums.{upto}
 use Rattle.marked.specs.Net.{at}
 use Rattle.marked.proofs.Tallies.{upto_most}
 use Rattle.circuit_tight.specs.helpers.Lists.{Headed, Threaded, Listed, drawn}
 use Rattle.circuit_search.specs.helpers.Ways.{Cut, FirstNoted}
-use Rattle.circuit_search.specs.helpers.Turns.{MoveEnds, Sought, Turned, Under, mark, marks}
+use Rattle.circuit_search.specs.helpers.Turns.{Lowest, LowestBack, MoveEnds, Sought, Tried, Turned, Under, mark, marks}
 use Rattle.circuit_search.specs.helpers.Turns.MoveEnds.{gone, got, moved}
 use Rattle.circuit_search.specs.declared.Move.{Move}
 use Rattle.circuit_search.specs.declared.Move.TheVariants.{At, GivenUp, Reached}
@@ -72,8 +74,41 @@ module _ {nt np : ℕ} {src dst via : List ℕ} {p root goal : ℕ} (er : root �
   pub sought_no : Cut (drawn nt np src dst) (Listed dst) root goal × (length via ≡ 122) → Sought nt np src dst p via false
   sought_no n = record { long = n.1; yes = λ z. cc; no = λ z. rw (← er, ← eg) n.0 }
 
+-- A place that is listed has the way that the search finds, and one that is not has none.
+module _ {nt np : ℕ} {src dst via : List ℕ} {p : ℕ} where
+  pub tried_yes : {r : Bool} → Listed dst p → Sought nt np src dst p via r → Tried nt np src dst p via r
+  tried_yes l s = record { long = s.long; fits = λ z. l; yes = s.yes; no = λ z i. s.no z }
+
+  pub tried_no : at dst p ≡ 122 → length via ≡ 122 → Tried nt np src dst p via false
+  tried_no e l = record { long = l; fits = λ z. cc; yes = λ z. cc; no = λ z i. absurd (i e) }
+
 -- No listed place below p has a way back.
 pub record Missed (nt np : ℕ) (src dst : List ℕ) (p : ℕ) (via : List ℕ) : Type 0 where
   pub most : p ≤ np
   pub long : length via ≡ 122
   pub none : (q : ℕ) → q < p → Listed dst q → Cut (drawn nt np src dst) (Listed dst) (at dst q) (at src q)
+
+module _ {nt np : ℕ} {src dst : List ℕ} where
+  -- Below 0 there is no place.
+  pub missed_start : {via : List ℕ} → length via ≡ 122 → Missed nt np src dst 0 via
+  missed_start l = record { most = omega arith; long = l; none = λ q h. absurd (omega arith) }
+
+  module _ {p : ℕ} {via : List ℕ} (m : Missed nt np src dst p via) where
+    -- One place more has none,
+    pub missed_on : {w : List ℕ} {r : Bool} → p < np → Tried nt np src dst p w r → r ≡ false → Missed nt np src dst (p + 1) w
+    missed_on h t e = record {
+      most = omega arith;
+      long = t.long;
+      none = λ q i. elim (ℕ_discrete q p) [
+        | yes z ↦ subst (λ (x : ℕ). Listed dst x → Cut (drawn nt np src dst) (Listed dst) (at dst x) (at src x)) (sym z) (t.no e)
+        | no z ↦ m.none q (omega arith)
+      ];
+    }
+
+    -- or it has one, and is the lowest;
+    pub lowest_yes : {w : List ℕ} {r : Bool} → p < np → Tried nt np src dst p w r → r ≡ true → LowestBack nt np src dst w p
+    lowest_yes h t e = record { inside = h; below = m.none; listed = t.fits e; noted = t.yes e }
+
+    -- past the last place, none has.
+    pub lowest_none : (p < np → ⊥) → Lowest nt np src dst via None
+    lowest_none f q h = m.none q (omega arith)

@@ -1,11 +1,12 @@
 -- Whatever order the edges come in, what is marked is joined, and no mark is lost.
-use mathlib.Core.Path.{◌≡◌, refl, sym, ◌∙◌, subst}
+use mathlib.Core.Path.{◌≡◌, ap, refl, sym, ◌∙◌, subst}
 use mathlib.Core.Logic.{◌≢◌}
 use mathlib.Core.Bool.{Bool, beq, true, false}
 use mathlib.Core.List.{List, [], ◌∷◌}
-use Prim.Native.Nat.{◌<◌, ◌≤◌, suc, zero, ℕ}
+use Prim.Native.Nat.{◌+◌, ◌<◌, ◌≤◌, suc, zero, ℕ}
 use native.Mathlib.Omega.{arith}
 use native.Mathlib.Decide.{ℕ_discrete}
+use borrow.Author.Count.{below_more}
 use lib.ListN.{get_or, length, length-set, replicate, set}
 use lib.Seq.{get_or-set_other}
 use Rattle.marked.specs.Net.{at}
@@ -83,7 +84,15 @@ module _ {e : ℕ} {from to : List ℕ} where
             omega (arith, missing_set seen (at from k), missing_falls (set seen (at from k) true) (at to k) (rw (length-set, h.long) m) (get_or-set_other seen (at from k) (at to k) true false o ∙ q))
         go true true p q = absurd (odd (p ∙ sym q))
 
-  -- Such an edge has both its ends marked.
+  -- Edge k leaves the marks as they are where it is even,
+  pub spread_still :
+      {seen : List Bool} {k a b : ℕ} (was : Bool) → Reached e from to seen → get_or seen a false ≡ get_or seen b false → a ≡ at from k → b ≡ at to k
+      → Spread e from to k seen was seen was
+  spread_still {seen} was h even p q =
+      let same : Even from to seen _ = sym (ap (λ (x : ℕ). get_or seen x false) p) ∙ even ∙ ap (λ (x : ℕ). get_or seen x false) q in
+      record { reached = h; fewer = omega arith; grows = λ r s. cc; still = λ r. (r, refl, same) }
+
+  -- and marks its ends where it is not.
   pub spread_more :
       {seen : List Bool} {k a b : ℕ} (was : Bool) → Reached e from to seen → k < e → beq (get_or seen a false) (get_or seen b false) ≡ false →
       a ≡ at from k → b ≡ at to k → at from k < 42 → at to k < 42 → Spread e from to k seen was (set (set seen a true) b true) true
@@ -96,6 +105,23 @@ module _ {e : ℕ} {from to : List ℕ} where
         grows = λ u v. falls_more h inside odd' l m;
         still = λ u. cc;
       })
+
+  -- A pass, edge after edge.
+  pub passed_none : {seen : List Bool} → Reached e from to seen → Passed e from to 0 seen seen false
+  passed_none h = record { reached = h; grows = λ p. cc; still = λ p. (refl, λ j l. absurd (omega arith)) }
+
+  pub passed_more : {k : ℕ} {old new next : List Bool} {was now : Bool} → Passed e from to k old new was → Spread e from to k new was next now → Passed e from to (k + 1) old next now
+  passed_more {k} {old} {new} {next} {was} {now} h s = record { reached = s.reached; grows = grows was refl; still = still }
+    where
+      grows : (b : Bool) → was ≡ b → now ≡ true → missing next < missing old
+      grows true p q = omega (arith, h.grows p, s.fewer)
+      grows false p q = omega (arith, s.grows p q, ap missing (h.still p).0)
+
+      still : now ≡ false → (next ≡ old) × ((j : ℕ) → j < k + 1 → Even from to next j)
+      still q =
+          let r = s.still q in
+          let o = h.still r.0 in
+          (r.1 ∙ o.0, below_more (λ j. Even from to next j) k (λ j l. subst (λ (m : List Bool). Even from to m j) (sym r.1) (o.1 j l)) r.2)
 
   -- Once every edge is even, whatever is joined to the source is marked.
   pub marked_all : {old new : List Bool} {now : Bool} → now ≡ false → Passed e from to e old new now → Marks e from to new

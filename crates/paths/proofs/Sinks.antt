@@ -16,6 +16,10 @@ use Rattle.paths.specs.helpers.Latest.{Latest}
 use Rattle.paths_finish.proofs.Links.{sink_ends, then, time_sink}
 use Rattle.paths_finish.proofs.Passing.{Passing}
 
+-- No edge yet: the data sink's.
+pub latest_none : (n : ℕ) (from mark d : List ℕ) → Latest n from mark d 0 (at d (n + 1))
+latest_none n from mark d = record { sink = omega arith; fresh = λ j h m. absurd (omega arith); is = inl refl }
+
 module _ {n : ℕ} {from mark d : List ℕ} where
   -- One edge more, without a mark,
   pub latest_unmarked : {k r : ℕ} → Latest n from mark d k r → at mark k ≡ 0 → Latest n from mark d (k + 1) r

@@ -37,6 +37,11 @@ times_sum times (suc n) =
       )
     ])
 
+-- One operation more.
+pub times_more : (times : List ℕ) (i : ℕ) → upto (λ (j : ℕ). time_at times (j + 1)) (i + 1) ≡ upto (λ (j : ℕ). time_at times (j + 1)) i + at times i
+unfolding upto
+times_more times i = let same : i + 1 - 1 ≡ i = omega arith in rw add-one (omega (arith, ap (at times) same))
+
 pub times_most : (f : ℕ → ℕ) (m n : ℕ) → ((i : ℕ) → 1 ≤ i → i ≤ n → f i ≤ m) → upto (λ (i : ℕ). f (i + 1)) n ≤ n * m
 times_most f m n h = upto_most (λ (i : ℕ). f (i + 1)) m n (λ i l. h (i + 1) (omega arith) (omega arith))
 

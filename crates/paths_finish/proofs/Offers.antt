@@ -44,7 +44,10 @@ module _ {n e : ℕ} {times from to mark buffers d : List ℕ} (l : Backed n e t
     | no z ↦ record { begin = 0; nodes = at to k ∷ []; path = go (begins k h (omega arith)) stop; has = omega (arith, offer_marked z) }
   ]
 
-  -- Its target has an entry.
+  -- Both ends have an entry.
+  pub origin_in : at from k < 42
+  origin_in = omega (arith, l.good.wired.leaves k h, l.good.wired.operations)
+
   pub target_in : at to k < 42
   target_in = omega (arith, l.good.wired.ends k h, l.good.wired.operations)
 

@@ -1,5 +1,5 @@
 -- Sweeping edge by edge: the sum of the entries rises with each raise, and a sweep without one leaves every edge settled.
-use mathlib.Core.Path.{◌≡◌, subst, sym}
+use mathlib.Core.Path.{◌≡◌, refl, subst, sym}
 use mathlib.Core.Bool.{Bool, false, true}
 use mathlib.Core.List.{List, [], ◌∷◌}
 use Prim.Native.Nat.{◌+◌, ◌<◌, ◌≤◌, suc, zero, ℕ}
@@ -8,7 +8,7 @@ use native.Mathlib.Omega.{arith}
 use lib.ListN.{length, set}
 use Rattle.marked.specs.Sums.{sum, total}
 use Rattle.marked.specs.Net.{at}
-use Rattle.paths_finish.specs.helpers.Finishing.{Lifted, EdgesSwept, done_by, kept, lifted}
+use Rattle.paths_finish.specs.helpers.Finishing.{Backed, Lifted, EdgesSwept, done_by, kept, lifted}
 use Rattle.paths_finish.proofs.Offers.{inside, lifted_backed}
 
 total_rises : (d : List ℕ) (v x : ℕ) → v < length d → at d v < x → total d < total (set d v x)
@@ -24,6 +24,10 @@ pub lifted_as : {d c : List ℕ} {v w x y : ℕ} {before after : Bool} → v ≡
 lifted_as ev ex l = rw (ev, ex) at l
 
 module _ {n e : ℕ} {times from to mark buffers : List ℕ} where
+  -- No edge yet.
+  pub swept_none : {d : List ℕ} → Backed n e times from to mark buffers d → EdgesSwept n e times from to mark buffers 0 d d false
+  swept_none l = record { backed = l; rises = omega arith; quiet = λ i. (refl, λ j h. absurd (omega arith)); loud = λ i. differ (sym i) }
+
   -- One edge more.
   pub swept_more :
       {k : ℕ} {a b d : List ℕ} {x y : Bool} → k < e → EdgesSwept n e times from to mark buffers k a b x → Lifted b (at to k) (done_by n times from to mark b k) x d y

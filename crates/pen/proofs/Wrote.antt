@@ -1,6 +1,7 @@
 -- Laws of what a writer has written: texts one behind the other are one text.
-use mathlib.Core.Path.{refl}
+use mathlib.Core.Path.{refl, sym}
 use mathlib.Core.List.{List, ◌++◌}
+use native.Mathlib.Nat.{add-zero}
 use native.Mathlib.Numerals.{add-one}
 use native.Mathlib.Omega.{arith}
 use lib.ListN.{length, length-append, length-set}
@@ -28,6 +29,10 @@ module _ {w x : Writer} {a : List ℕ} (p : Wrote w a x) where
 -- texts in a row: the writer before has written the first i of them, and is then after
 pub record WroteRow (before : Writer) (text : ℕ → List ℕ) (i : ℕ) (after : Writer) : Type 0 where
   pub row : Wrote before (series text i) after
+
+-- at the start none is written
+pub row_start : (w : Writer) (text : ℕ → List ℕ) → WroteRow w text 0 w
+row_start w text = record { row = record { is = λ i. record { buf = w.buf; at = sym (add-zero w.at) i } } }
 
 module _ {w x : Writer} {text : ℕ → List ℕ} {i : ℕ} (p : WroteRow w text i x) where
   -- where there was room for more, there is room for the next

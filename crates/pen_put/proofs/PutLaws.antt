@@ -3,11 +3,12 @@ use mathlib.Core.Path.{◌≡◌, refl, ap, sym, ◌∙◌}
 use Prim.Native.Nat.{ℕ, zero, suc, ◌+◌, ◌<◌, ◌≤◌}
 use mathlib.Core.Logic.{◌⊎◌, inl, inr}
 use native.Mathlib.Nat.{add-zero, eq-or-lt_of_le}
+use native.Mathlib.Numerals.{add-one}
 use native.Mathlib.Omega.{arith}
 use mathlib.Core.List.{List, [], ◌∷◌, ◌++◌}
 use Rattle.std.proofs.lemmas.Grind.{common_steps}
-use lib.ListN.{length, set, take, drop, length-append, length-set}
-use lib.Seq.{sets, length-sets, sets-eq, take_at}
+use lib.ListN.{length, set, take, drop, get_or, length-append, length-set}
+use lib.Seq.{sets, length-sets, sets-eq, take-suc, take_at}
 use Rattle.pen_put.specs.Lines.{HasRoom, Put, series}
 use Rattle.pen_put.proofs.DigitLaws.{digits_more, digits_small}
 
@@ -16,7 +17,7 @@ pub sets_append : (l : List ℕ) (i : ℕ) (a b : List ℕ) → sets l i (a ++ b
 sets_append l i [] b = ap (λ (k : ℕ). sets l k b) (sym (add-zero i))
 sets_append l i (x ∷ a) b = sets_append (set l i x) (suc i) a b ∙ ap (λ (k : ℕ). sets (sets (set l i x) (suc i) a) k b) (omega arith)
 
--- the text a is written in l from `at` on, which leaves z and the place r
+-- the text a is written in l from `at` on, which leaves z and the place r; then b is written behind it
 module _ {l z : List ℕ} {at r : ℕ} {a : List ℕ} (p : Put l at a z r) where
   -- the buffer is as long as it was
   pub put_length : length z ≡ length l
@@ -29,6 +30,13 @@ module _ {l z : List ℕ} {at r : ℕ} {a : List ℕ} (p : Put l at a z r) where
   -- where there was room for more, there is room behind it
   pub then_room : {b : List ℕ} → HasRoom l at (a ++ b) → HasRoom z r b
   then_room {b} f = record { room = omega (arith, put_length, p.place, f.room, length-append a b) }
+
+  -- and with b both are put
+  pub then_put : {b z' : List ℕ} {r' : ℕ} → Put z r b z' r' → Put l at (a ++ b) z' r'
+  then_put {b} q = record {
+    place = omega (arith, length-append a b, p.place, q.place);
+    stands = q.stands ∙ (λ i. sets (p.stands i) (p.place i) b) ∙ sym (sets_append l at a b);
+  }
 
 -- where there is room for both, there is room for the first
 pub first_room : {l : List ℕ} {at : ℕ} {a : List ℕ} (b : List ℕ) → HasRoom l at (a ++ b) → HasRoom l at a
@@ -49,6 +57,14 @@ put_read {l} {z} {a} {r} p h =
 -- what is put determines the buffer and the place behind it
 pub put_unique : {l y z : List ℕ} {at r s : ℕ} {a b : List ℕ} → a ≡ b → Put l at a y r → Put l at b z s → (r ≡ s) × (y ≡ z)
 put_unique {l} {at = at} e p q = (p.place ∙ ap (λ (t : List ℕ). at + length t) e ∙ sym q.place, p.stands ∙ ap (λ (t : List ℕ). sets l at t) e ∙ sym q.stands)
+
+-- one more byte behind a text
+pub put_byte : {l z : List ℕ} {at r r' : ℕ} {a : List ℕ} → Put l at a z r → (d : ℕ) → r' ≡ r + 1 → Put l at (a ++ (d ∷ [])) (set z r d) r'
+put_byte p d e = then_put p (record { place = e; stands = refl })
+
+-- one more byte of a word
+pub put_next : {l z : List ℕ} {at : ℕ} (s : List ℕ) (i : ℕ) → i < length s → Put l at (take i s) z (at + i) → Put l at (take (i + 1) s) (set z (at + i) (get_or s i 0)) (at + (i + 1))
+put_next s i h p = rw (add-one i, take-suc s i 0 h) (put_byte p (get_or s i 0) (omega arith))
 
 -- texts that agree one by one agree in a row
 pub series_same : (x y : ℕ → List ℕ) (n : ℕ) → ((i : ℕ) → i < n → x i ≡ y i) → series x n ≡ series y n

@@ -1,7 +1,7 @@
--- A run as its loop goes: after an entry that fired, at one that is refused, and at the end.
-use mathlib.Core.Path.{◌≡◌, ◌∙◌, ap, subst, sym}
+-- A run as its loop goes: at the start, after an entry that fired, at one that is refused, and at the end.
+use mathlib.Core.Path.{◌≡◌, ◌∙◌, ap, refl, subst, sym}
 use mathlib.Core.List.{List, [], ◌∷◌}
-use Prim.Native.Nat.{◌*◌, ◌+◌, suc, ℕ}
+use Prim.Native.Nat.{◌*◌, ◌+◌, ◌-◌, ◌<◌, suc, ℕ}
 use native.Mathlib.Numerals.{add-one}
 use native.Mathlib.Omega.{arith}
 use lib.ListN.{drop, length}
@@ -35,6 +35,10 @@ pub record Going (n e : ℕ) (from to m₀ list : List ℕ) (i : ℕ) (rec : Run
   pub left : (k : ℕ) (x : Verdict) (z : List ℕ) → Runs (net_of (wires n e from to)) m (drop rec.next list) k x z
       → Runs (net_of (wires n e from to)) m₀ list (rec.fired + k) x z
 
+-- At the start no entry has been taken.
+pub going_start : {n e : ℕ} {from to m list : List ℕ} → Few n e from to m → Going n e from to m list 0 (record { places = 3 * n + 2 * e; next = 0; fired = 0 }) m
+going_start few = record { places = refl; next = refl; counted = refl; long = refl; few = few; left = λ k x z r. counts (omega arith) r }
+
 module _ {n e : ℕ} {from to m₀ list : List ℕ} {i : ℕ} {rec : RunRecord} {m : List ℕ} (g : Going n e from to m₀ list i rec m) where
   abbrev net : Net
   net = net_of (wires n e from to)
@@ -60,6 +64,10 @@ module _ {n e : ℕ} {from to m₀ list : List ℕ} {i : ℕ} {rec : RunRecord} 
     module _ (f : a ≡ Ok tt) where
       going_next : after ≡ advanced rec (Ok tt)
       going_next = t.entry.moves ∙ ap (advanced rec) f
+
+      -- Less of the list is left.
+      pub going_less : length list - after.next < length list - rec.next
+      going_less = omega (arith, t.entry.inside, ap (λ (r : RunRecord). r.next) going_next)
 
       one : Steps net m (at list rec.next) (Ok tt) z
       one = subst (λ (x : Verdict). Steps net m (at list rec.next) x z) f step
