@@ -22,7 +22,7 @@ use Rattle.amg.specs.Tables.{Tables, shown_in, values_in}
 use Rattle.refusal.specs.declared.Reason.{Reason}
 use Rattle.refusal.specs.declared.Reason.TheVariants.{CircuitDead, CountsWrong, EdgeWrong, LengthWrong, MarkingUnreached, MarkingWrong, NodeApart, NodeLoose, RoomShort, TablesWrong as Table_row, TimeWrong, TrailerWrong, TransitionDisabled, TransitionUnknown}
 use Rattle.refusal.specs.Numbers.{number_of, number_told, place_told}
-use Rattle.amg_word.specs.Word.{most_count, packed}
+use Rattle.amg_word.specs.Word.{most_count, packed, packed_of}
 
 -- where two contracts allow one reply only, they allow one word only
 same_word : {A : Type 0} {word_of : A → ℕ} {P Q : A → Type 0} {v w : ℕ} (s : ToldBy word_of P v) (t : ToldBy word_of Q w) → s.reply ≡ t.reply → v ≡ w
@@ -99,16 +99,27 @@ told_small : (r : Option Refusal) → number_told r < 256
 told_small None = lit< tt
 told_small (Some r) = number_small r.reason
 
--- A word tells its number, its place and its count apart.
+-- A word tells its number, its place and its count apart, whatever number of 8 bits and place of 16 bits it is made of.
+module _ (k x count : ℕ) (small : k < 256) (near : x < 65536) where
+  pub word_number_of : packed_of k x count % 256 ≡ k
+  word_number_of = omega (arith, small)
+
+  pub word_place_of : packed_of k x count / 256 % 65536 ≡ x
+  word_place_of = omega (arith, small, near)
+
+  pub word_count_of : packed_of k x count / 1099511627776 ≡ min count most_count
+  word_count_of = omega (arith, small, near)
+
+-- So the word of a reply tells them.
 module _ (r : Option Refusal) (count : ℕ) (near : place_told r < 65536) where
   pub word_number : packed r count % 256 ≡ number_told r
-  word_number = omega (arith, told_small r)
+  word_number = word_number_of (number_told r) (place_told r) count (told_small r) near
 
   pub word_place : packed r count / 256 % 65536 ≡ place_told r
-  word_place = omega (arith, told_small r)
+  word_place = word_place_of (number_told r) (place_told r) count (told_small r) near
 
   pub word_count : packed r count / 1099511627776 ≡ min count most_count
-  word_count = omega (arith, told_small r)
+  word_count = word_count_of (number_told r) (place_told r) count (told_small r) near
 
 -- A wait's word tells the wait itself: it is never cut to the 24 bits.
 pub amg_wait_exact : (f m : List ℕ) (n v w : ℕ) (c : WaitCall f m n v) → c.reply ≡ Ok w → v / 1099511627776 ≡ w

@@ -1,7 +1,7 @@
 // TBO: the largest time per token of a circuit of the computational graph, with a certificate that no circuit has more.
 #![tactic(auto)]
 
-mod improve;
+pub mod improve;
 
 ghost use Rattle.std.specs.Prelude.{◌≡◌, ◌+◌, ◌*◌, ◌<◌, ◌≤◌};
 ghost use Rattle.marked.specs.Net.{at};
