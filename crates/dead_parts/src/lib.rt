@@ -20,7 +20,7 @@ const MOVES: usize = PLACES + TRANSITIONS;
 // How far the search is.
 #[derive(Drop)]
 struct Search<'a> {
-    // The empty places, and the first of each transition that is not yet taken.
+    // The empty places, and of each transition that was met the first that is not yet taken.
     lists: &'a Lists,
     left: [Option<u16>; TRANSITIONS],
     // Each transition met has a number, in the order of meeting; `last` was given last.
@@ -36,13 +36,14 @@ struct Search<'a> {
 }
 
 impl Search<'_> {
-    // t is numbered, and joins path and pile.
+    // t is numbered, with all its places left to take, and joins path and pile.
     fn enter(&mut self, t: usize)
         requires { t < most_transitions }
     {
         self.last = self.last.saturating_add(1);
         self.number[t] = self.last;
         self.level[t] = self.last;
+        self.left[t] = self.lists.first(t);
         self.path.push(t);
         self.pile.push(t);
     }
@@ -123,7 +124,7 @@ impl Search<'_> {
 pub fn part_levels(g: &Wiring, lists: &Lists) -> [u8; TRANSITIONS] {
     let mut search = Search {
         lists,
-        left: *lists.heads(),
+        left: [None; TRANSITIONS],
         number: [0; TRANSITIONS],
         last: 0,
         level: [0; TRANSITIONS],

@@ -10,11 +10,17 @@ use net::{EDGES, NODES};
 // Both ends of every edge: end 2k is the one that edge k leaves, and 2k + 1 the one that it enters.
 const ENDS: usize = 2 * EDGES;
 
-// The ends in lists by node: the first at each node, and behind each end the next at the same node.
+// The ends in lists by node: the first at each node, and behind each end the next at the same node. An entry is an end's number plus one, 0 for none: one
+// number is written and read at once, where an Option is written in two parts and read when both have come.
 #[derive(Drop)]
 struct Lists {
-    head: [Option<u8>; NODES],
-    next: [Option<u8>; ENDS],
+    head: [u16; NODES],
+    next: [u16; ENDS],
+}
+
+// The end of an entry.
+fn end(entry: u16) -> Option<u8> {
+    u8::try_from(entry.checked_sub(1)?).ok()
 }
 
 impl Lists {
@@ -23,7 +29,7 @@ impl Lists {
         requires { v < most_nodes }
     {
         self.next[usize::from(q)] = self.head[v];
-        self.head[v] = Some(q);
+        self.head[v] = u16::from(q) + 1;
     }
 
     // Both ends of every edge.
@@ -71,7 +77,7 @@ impl Search {
         }
         let mut first = lists.head[v];
         for _ in 0..ENDS {
-            let Some(q) = first else {
+            let Some(q) = end(first) else {
                 return;
             };
             self.meet(q, g);
@@ -93,8 +99,8 @@ impl Search {
 // The edges by which nodes are reached, the first of them at 1. Entries that are left over are 0.
 pub fn tour(g: &Wiring) -> [u8; NODES] {
     let mut lists = Lists {
-        head: [None; NODES],
-        next: [None; ENDS],
+        head: [0; NODES],
+        next: [0; ENDS],
     };
     lists.link_edges(g);
     let mut search = Search {
