@@ -5,11 +5,11 @@ ghost use Rattle.net.specs.Limits.{most_transitions};
 use dead_lists::Lists;
 use net::TRANSITIONS;
 
-// The search so far: the place by which each transition was first reached, and the transitions reached, in that order.
+// The search so far: the place by which each transition was first reached, as its number plus one (0 for none), and the transitions reached, in that order.
 #[derive(Drop)]
 struct Search<'a> {
     lists: &'a Lists,
-    via: [Option<u16>; TRANSITIONS],
+    via: [u16; TRANSITIONS],
     queue: [u8; TRANSITIONS],
     end: usize,
     ghost within: { end ≤ most_transitions },
@@ -31,8 +31,8 @@ impl Search<'_> {
     fn note(&mut self, p: u16, t: usize)
         requires { t < most_transitions }
     {
-        if self.via[t].is_none() {
-            self.via[t] = Some(p);
+        if self.via[t] == 0 {
+            self.via[t] = p.saturating_add(1);
             self.push(t);
         }
     }
@@ -58,13 +58,13 @@ impl Search<'_> {
     }
 }
 
-// The empty place by which each transition is first reached from t, t itself too: none where it is not.
-pub fn ways(lists: &Lists, t: usize) -> [Option<u16>; TRANSITIONS]
+// The empty place by which each transition is first reached from t, t itself too: its number plus one, 0 where it is not.
+pub fn ways(lists: &Lists, t: usize) -> [u16; TRANSITIONS]
     requires { t < most_transitions }
 {
     let mut search = Search {
         lists,
-        via: [None; TRANSITIONS],
+        via: [0; TRANSITIONS],
         queue: [0; TRANSITIONS],
         end: 0,
     };

@@ -20,9 +20,9 @@ const MOVES: usize = PLACES + TRANSITIONS;
 // How far the search is.
 #[derive(Drop)]
 struct Search<'a> {
-    // The empty places, and of each transition that was met the first that is not yet taken.
+    // The empty places, and of each transition that was met the first that is not yet taken: its number plus one, 0 for none.
     lists: &'a Lists,
-    left: [Option<u16>; TRANSITIONS],
+    left: [u16; TRANSITIONS],
     // Each transition met has a number, in the order of meeting; `last` was given last.
     number: [u8; TRANSITIONS],
     last: u8,
@@ -35,6 +35,11 @@ struct Search<'a> {
     pile: Pile,
 }
 
+// A place's number plus one, 0 for none.
+fn entry(place: Option<u16>) -> u16 {
+    place.map_or(0, |p| p.saturating_add(1))
+}
+
 impl Search<'_> {
     // t is numbered, with all its places left to take, and joins path and pile.
     fn enter(&mut self, t: usize)
@@ -43,7 +48,7 @@ impl Search<'_> {
         self.last = self.last.saturating_add(1);
         self.number[t] = self.last;
         self.level[t] = self.last;
-        self.left[t] = self.lists.first(t);
+        self.left[t] = entry(self.lists.first(t));
         self.path.push(t);
         self.pile.push(t);
     }
@@ -93,11 +98,11 @@ impl Search<'_> {
     fn advance(&mut self, t: usize)
         requires { t < most_transitions }
     {
-        let Some(p) = self.left[t] else {
+        let Some(p) = self.left[t].checked_sub(1) else {
             self.leave(t);
             return;
         };
-        self.left[t] = self.lists.after(p);
+        self.left[t] = entry(self.lists.after(p));
         if let Some(u) = self.lists.goal(p) {
             self.meet(t, u);
         }
@@ -124,7 +129,7 @@ impl Search<'_> {
 pub fn part_levels(g: &Wiring, lists: &Lists) -> [u8; TRANSITIONS] {
     let mut search = Search {
         lists,
-        left: [None; TRANSITIONS],
+        left: [0; TRANSITIONS],
         number: [0; TRANSITIONS],
         last: 0,
         level: [0; TRANSITIONS],
