@@ -22,6 +22,7 @@ pub fn start_graph(g: &Plotted, marking: &mut [u8]) -> Verdict
 }
 
 // The marking is accepted before the transition is tried.
+#[tactic(auto, using(crate::proofs::Kept::refused_kept))]
 pub fn step_graph(g: &Plotted, marking: &mut [u8], transition: u16) -> Verdict
     requires { marked_over GoodWiring g.now }
     ensures { GraphStepped (plan_of_plotted g.now) marking.old transition result marking.new }

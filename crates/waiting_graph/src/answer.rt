@@ -8,6 +8,7 @@ use accepting::accepts::accepts;
 use net::rows::Plotted;
 use refusal::{Reason, Refusal, refuse};
 
+#[tactic(auto, using(refusal::proofs::Asked::judged_given, crate::proofs::GraphAnswers::answers_row))]
 pub fn answer(g: &Plotted, marking: &[u8], transition: u16) -> Result<u32, Refusal>
     requires { marked_over GoodWiring g.now }
     ensures { GraphWaits (plan_of_plotted g.now) marking.now transition result }
