@@ -48,7 +48,7 @@ pub struct Entry {
 }
 
 // For each transition the first listed place that leaves it, and an entry for each place.
-// The number of places stands for none, as LOOSE does: options would widen every entry, and a call has 8 KiB of stack.
+// The number of places stands for none, as LOOSE does: options would widen every entry, and the lists stand on the stack of a call.
 #[derive(Drop)]
 pub struct Lists {
     pub head: [u16; TRANSITIONS],
